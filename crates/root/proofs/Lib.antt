@@ -1,2 +1,3 @@
--- What the proof of ceil_div uses.
+-- Quotient: what the proof of ceil_div uses. Rows: the definitions, computed.
 mod Quotient
+mod Rows

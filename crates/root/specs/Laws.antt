@@ -1,11 +1,12 @@
--- The laws that callers cite: each answer is the least, whatever is the least is the answer, and what holds at 0. Assumes nothing.
+-- The laws that callers cite: each answer is the least, whatever is the least is the answer, and what is answered
+-- over zero. Assumes nothing.
 use mathlib.Core.Path.{_≡_, refl}
 use mathlib.Core.Bool.{Bool, true, false, cond}
 use mathlib.Core.Logic.{_↔_}
 use Prim.Native.Nat.{ℕ, zero, suc, _+_, _-_, _*_, _/_, _≤_, _<_}
-use native.Mathlib.Nat.{mul-le-mul, lt-of-not-le, div-lt-iff-lt-mul}
+use native.Mathlib.Nat.{mul-le-mul, div-lt-iff-lt-mul}
 use native.Mathlib.Omega.{arith}
-use lib.Dec.{leb, eqb}
+use lib.Dec.{leb}
 use borrow.Author.Tests.{leb-true, leb-false, ne-eqb}
 use Rattle.root.specs.Least.{Least, Covers, Reaches, least-unique}
 use Rattle.root.specs.Root.{overZero, ceilDiv, wholeRootBy, leastRoot, leastRootOver}
@@ -38,7 +39,12 @@ ceilDiv-unique n d q h p = least-unique q _ p (ceilDiv-least n d h)
 abbrev Whole : ℕ → ℕ → Type 0
 Whole n r = (r * r ≤ n) × (n < (r + 1) * (r + 1))
 
-digit : (n r : ℕ) → Whole (n / 4) r → (b : Bool) → leb ((2 * r + 1) * (2 * r + 1)) n ≡ b → Whole n (cond b (2 * r + 1) (2 * r))
+digit :
+    (n r : ℕ) →
+    Whole (n / 4) r →
+    (b : Bool) →
+    leb ((2 * r + 1) * (2 * r + 1)) n ≡ b →
+    Whole n (cond b (2 * r + 1) (2 * r))
 digit n r h true e = omega (arith, leb-true)
 digit n r h false e = omega (arith, leb-false)
 
@@ -52,8 +58,14 @@ pub square-le : {a b : ℕ} → a ≤ b → a * a ≤ b * b
 square-le h = mul-le-mul h h
 
 up : (n r : ℕ) → Whole n r → (b : Bool) → leb n (r * r) ≡ b → Least (λ r. n ≤ r * r) (cond b r (r + 1))
-up n r h true e = record { holds = omega (arith, leb-true); fails = λ s l c. omega (arith, square-le {a = s + 1} {b = r} (omega arith)) }
-up n r h false e = record { holds = omega arith; fails = λ s l c. omega (arith, leb-false, square-le {a = s} {b = r} (omega arith)) }
+up n r h true e = record {
+  holds = omega (arith, leb-true);
+  fails = λ s l c. omega (arith, square-le {a = s + 1} {b = r} (omega arith));
+}
+up n r h false e = record {
+  holds = omega arith;
+  fails = λ s l c. omega (arith, leb-false, square-le {a = s} {b = r} (omega arith));
+}
 
 pub leastRoot-least : (n : ℕ) → Least (λ r. n ≤ r * r) (leastRoot n)
 unfolding leastRoot

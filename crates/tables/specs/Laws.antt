@@ -63,5 +63,7 @@ stress-least m t h =
 pub ambient-greatest : (m t : ℕ) → designStress m t ≤ designStress m 50
 unfolding designStress column
 ambient-greatest m t =
-    leb→le _ _ (at (λ s. leb s (getD (rowOf m) 0 0)) (rowOf m) 0
-    (at (λ r. every (λ s. leb s (getD r 0 0)) r) ([] ∷ table1) [] tt tt m) (le→leb 0 (getD (rowOf m) 0 0) zero-le) (column t))
+    let r = rowOf m in
+    let first = getD r 0 0 in
+    let rule : T (every (λ s. leb s first) r) = at (λ r. every (λ s. leb s (getD r 0 0)) r) ([] ∷ table1) [] tt tt m in
+    leb→le _ _ (at (λ s. leb s first) r 0 rule (le→leb 0 first zero-le) (column t))

@@ -9,7 +9,8 @@ use Rattle.root.proofs.ceil_div.Tie as tie
 
 add-result : tie.Need-add-result
 add-result c =
-    omega (arith, inexact-fits (c .before .before .args .n) (c .before .before .args .d) (c .before .if1 .left) (c .if2 .left))
+    let a = c .before .before .args in
+    omega (arith, inexact-fits (a .n) (a .d) (c .before .if1 .left) (c .if2 .left))
 
 returns : tie.Need-returns
 returns c = rw (c .if1 .taken) (sym (ceilDiv-zero _))

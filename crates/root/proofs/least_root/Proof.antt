@@ -1,4 +1,5 @@
--- `root::least_root` meets its contract. Invariant: the square of `high` reaches n, and no square of a number below `low` does. Assumes nothing.
+-- `root::least_root` meets its contract. Invariant: the square of `high` reaches n, and that of no number below `low`
+-- does. Assumes nothing.
 use Prim.Native.Nat.{ℕ, _+_, _*_, _-_, _/_, _≤_, _<_}
 use native.Mathlib.Omega.{arith}
 use Rattle.root.specs.Laws.{leastRoot-unique, square-le}
@@ -13,15 +14,18 @@ abbrev μ-loop : tie.MeasureT-loop
 μ-loop n low₀ high₀ low high = high - low
 
 mul-if1 : tie.Need-mul-if1 Inv-loop μ-loop
-mul-if1 c = omega (arith, square-le {a = (c .before .loop .low + c .before .loop .high) / 2} {b = 4294967295} (omega arith))
+mul-if1 c =
+    let l = c .before .loop in
+    omega (arith, square-le {a = (l .low + l .high) / 2} {b = 4294967295} (omega arith))
 
 loop-again : tie.Need-loop-again Inv-loop μ-loop
-loop-again c = (
-  omega arith,
-  omega arith,
-  omega arith,
-  λ s l. omega (arith, square-le {a = s} {b = (c .before .before .loop .low + c .before .before .loop .high) / 2} (omega arith)),
-)
+loop-again c =
+    let l = c .before .before .loop in (
+      omega arith,
+      omega arith,
+      omega arith,
+      λ s h. omega (arith, square-le {a = s} {b = (l .low + l .high) / 2} (omega arith)),
+    )
 
 loop-again-2 : tie.Need-loop-again-2 Inv-loop μ-loop
 loop-again-2 c = (omega arith, omega arith, omega arith, c .before .before .loop .inv .3)

@@ -1,4 +1,5 @@
--- `tables::column_at` meets its contract. Invariant: the column is as many places past i as the first limit not below the temperature is, among those from i on. Assumes nothing.
+-- `tables::column_at` meets its contract. Invariant: the column is i, and as many places on as the first limit that
+-- is not below the temperature stands among those from i on. Assumes nothing.
 use Prim.Native.Nat.{_+_, _≤_, _-_}
 use mathlib.Core.Path.{_≡_, sym}
 use native.Mathlib.Nat.{zero-add}
