@@ -13,7 +13,7 @@ pub record Least (P : ℕ → Type 0) (r : ℕ) : Type 0 where
 abbrev pub Covers : ℕ → ℕ → ℕ → Type 0
 Covers n d q = n ≤ d * q
 
--- t's square, over the factor a, reaches n: what the root over a factor asks of t
+-- a times the square of t reaches n: what the root over a factor asks of t
 abbrev pub Reaches : ℕ → ℕ → ℕ → Type 0
 Reaches n a t = n ≤ a * (t * t)
 
