@@ -80,6 +80,7 @@ pub leastRootOver-zero : (n : ℕ) → leastRootOver n 0 ≡ overZero
 unfolding leastRootOver
 leastRootOver-zero n = refl
 
+-- how it is computed: for the proof of least_root_over, not for callers
 pub leastRootOver-is : (n a : ℕ) → 0 < a → leastRootOver n a ≡ leastRoot (ceilDiv n a)
 unfolding leastRootOver
 leastRootOver-is n a h = simp (ne-eqb a 0 (omega arith))
