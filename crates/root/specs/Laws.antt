@@ -4,7 +4,7 @@ use mathlib.Core.Path.{_≡_, refl}
 use mathlib.Core.Bool.{Bool, true, false, cond}
 use mathlib.Core.Logic.{_↔_}
 use Prim.Native.Nat.{ℕ, zero, suc, _+_, _-_, _*_, _/_, _≤_, _<_}
-use native.Mathlib.Nat.{mul-le-mul, div-lt-iff-lt-mul}
+use native.Mathlib.Nat.{mul-le-mul, div-lt-iff-lt-mul, lt-of-not-le}
 use native.Mathlib.Omega.{arith}
 use lib.Dec.{leb}
 use borrow.Author.Tests.{leb-true, leb-false, ne-eqb}
@@ -29,6 +29,14 @@ ceilDiv-least n d h = record {
   holds = ceilDiv-le n d _ h .0 (omega arith);
   fails = λ q l c. omega (arith, ceilDiv-le n d q h .1 c);
 }
+
+-- rounding up adds less than d
+pub ceilDiv-excess : (n d : ℕ) → 0 < d → d * ceilDiv n d < n + d
+ceilDiv-excess n d h = by-size (ceilDiv n d) (ceilDiv-least n d h)
+  where
+    by-size : (q : ℕ) → Least (Covers n d) q → d * q < n + d
+    by-size zero p = omega arith
+    by-size (suc q) p = omega (arith, lt-of-not-le (p .fails q (omega arith)))
 
 pub ceilDiv-unique : (n d q : ℕ) → 0 < d → Least (Covers n d) q → q ≡ ceilDiv n d
 ceilDiv-unique n d q h p = least-unique q _ p (ceilDiv-least n d h)

@@ -1,6 +1,6 @@
 -- "The least whole number with ..": the one definition, over what is asked of the number. Assumes nothing.
 use mathlib.Core.Path.{_≡_}
-use Prim.Native.Nat.{ℕ, _*_, _≤_, _<_}
+use Prim.Native.Nat.{ℕ, suc, _*_, _≤_, _<_}
 use native.Mathlib.Nat.{lt-of-not-le}
 use native.Mathlib.Omega.{arith}
 
@@ -17,9 +17,10 @@ Covers n d q = n ≤ d * q
 abbrev pub Reaches : ℕ → ℕ → ℕ → Type 0
 Reaches n a t = n ≤ a * (t * t)
 
+-- whatever satisfies P is not below the least
+pub least-most : {P : ℕ → Type 0} {r : ℕ} (t : ℕ) → Least P r → P t → r ≤ t
+least-most t p h = omega (arith, lt-of-not-le {n = suc t} (λ l. p .fails t l h))
+
 -- there is one least number at most
 pub least-unique : {P : ℕ → Type 0} (r s : ℕ) → Least P r → Least P s → r ≡ s
-least-unique {P} r s p q = omega (arith, no-less r s p q, no-less s r q p)
-  where
-    no-less : (r s : ℕ) → Least P r → Least P s → r ≤ s
-    no-less r s p q = omega (arith, lt-of-not-le (λ l. p .fails s l (q .holds)))
+least-unique r s p q = omega (arith, least-most s p (q .holds), least-most r q (p .holds))
