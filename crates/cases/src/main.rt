@@ -1,21 +1,13 @@
-// Runs tables and root on the numbers of document 01 and on large ones. Each line written is a call
-// and its answer; the file stdout has what must be written.
-use libc::STDOUT_FILENO;
+// Runs the calculations, the tables and the root arithmetic on the numbers of document 01 and on large ones. Each line
+// written is a call and its answer; the file stdout has what must be written.
+mod answers;
+mod print;
+mod vectors;
 
-fn text(s: &[u8]) {
-    io::write_all(STDOUT_FILENO, s);
-}
-
-fn number(n: u64) {
-    text(b" ");
-    io::print_decimal(STDOUT_FILENO, n);
-}
-
-fn answer(n: u64) {
-    text(b" =");
-    number(n);
-    text(b"\n");
-}
+use libc::STDIN_FILENO;
+use print::answer;
+use print::number;
+use print::text;
 
 fn stress(material: u32, temperature: u32) {
     text(b"design_stress");
@@ -166,10 +158,18 @@ fn roots_over_factors() {
     least_root_over(18446744073709551615, 0);
 }
 
+// The vectors on standard input, as far as the space goes.
+fn calculations() {
+    let mut space = io::large_buffer();
+    let n = io::read_full(STDIN_FILENO, &mut space);
+    vectors::run(&space[..n]);
+}
+
 fn main() {
     table_1();
     stresses();
     quotients();
     roots();
     roots_over_factors();
+    calculations();
 }

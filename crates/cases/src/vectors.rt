@@ -1,0 +1,144 @@
+// Runs the calculations on vectors. A line is a kind, 1 for an endplate and 2 for a blind flange, the numbers of the
+// sheet in the order of its lines, and the plates. It is written again, with the answer and with the figures by place.
+use crate::answers::answered;
+use crate::print::number;
+use crate::print::text;
+use rules::BlindFlangeSheet;
+use rules::EndplateSheet;
+
+// The numbers of a line, as far as they are read.
+struct Line {
+    numbers: [u32; 64],
+    count: usize,
+    value: u32,
+}
+
+fn empty() -> Line {
+    Line {
+        numbers: [0; 64],
+        count: 0,
+        value: 0,
+    }
+}
+
+fn with_digit(l: Line, digit: u8) -> Line {
+    let mut next = l;
+    next.value = (((l.value as u64) * 10 + (digit % 16) as u64) % 4294967296) as u32;
+    next
+}
+
+// A number ends; the ones past 64 are lost.
+fn with_number(l: Line) -> Line {
+    let at = l.count;
+    if 64 <= at {
+        return l;
+    }
+    let mut next = l;
+    next.numbers[at] = l.value;
+    next.count = at + 1;
+    next.value = 0;
+    next
+}
+
+fn endplate(n: [u32; 64], count: usize) {
+    if count < 8 {
+        return;
+    }
+    if 64 < count {
+        return;
+    }
+    let s = EndplateSheet {
+        form: n[1],
+        material: n[2],
+        shell: n[3],
+        temperature: n[4],
+        pressure: n[5],
+        diameter: n[6],
+        allowance: n[7],
+    };
+    let plates = &n[8..count];
+    answered(rules::endplate(s, plates));
+    text(b" :");
+    endplate_places(s, plates);
+}
+
+fn endplate_places(s: EndplateSheet, plates: &[u32]) {
+    let mut place: u32 = 0;
+    while place < 8 {
+        number(rules::endplate_figure(s, plates, place));
+        place += 1;
+    }
+}
+
+fn blind_flange(n: [u32; 64], count: usize) {
+    if count < 15 {
+        return;
+    }
+    if 64 < count {
+        return;
+    }
+    let s = BlindFlangeSheet {
+        material: n[1],
+        temperature: n[2],
+        pressure: n[3],
+        allowance: n[4],
+        od: n[5],
+        width: n[6],
+        m: n[7],
+        y: n[8],
+        circle: n[9],
+        bolt: n[10],
+        root: n[11],
+        count: n[12],
+        sa: n[13],
+        sb: n[14],
+    };
+    let plates = &n[15..count];
+    answered(rules::blind_flange(s, plates));
+    text(b" :");
+    blind_flange_places(s, plates);
+}
+
+fn blind_flange_places(s: BlindFlangeSheet, plates: &[u32]) {
+    let mut place: u32 = 0;
+    while place < 15 {
+        number(rules::blind_flange_figure(s, plates, place));
+        place += 1;
+    }
+}
+
+fn worked(l: Line) {
+    let numbers = l.numbers;
+    let count = l.count;
+    if numbers[0] == 1 {
+        endplate(numbers, count);
+    } else {
+        blind_flange(numbers, count);
+    }
+    text(b"\n");
+}
+
+// The line so far, with one byte more: a digit, a space or the line's end.
+fn with_byte(l: Line, byte: u8) -> Line {
+    if byte == b' ' {
+        return with_number(l);
+    }
+    if byte == b'\n' {
+        worked(with_number(l));
+        return empty();
+    }
+    with_digit(l, byte)
+}
+
+pub(crate) fn run(input: &[u8]) {
+    let mut l = empty();
+    let mut i: usize = 0;
+    while i < input.len() {
+        let byte = input[i];
+        if byte != b'\n' {
+            text(&input[i..i + 1]);
+        }
+        l = with_byte(l, byte);
+        i += 1;
+    }
+}

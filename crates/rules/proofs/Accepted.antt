@@ -1,0 +1,84 @@
+-- What the numbers of a sheet keep to where no cause applies. The bounds are wider than the limits, which stand in
+-- Causes alone. Assumes nothing.
+use mathlib.Core.Path.{_≡_}
+use mathlib.Core.Logic.{_≢_}
+use Prim.Native.Nat.{ℕ, _*_, _^_, _≤_}
+use native.Mathlib.Nat.{mul-le-mul}
+use native.Mathlib.Omega.{arith}
+use borrow.Author.Tests.{ltb-false, eqb-false}
+use Rattle.tables.specs.DesignStress.{designStress}
+use Rattle.rules.specs.Endplate.{endplateStress}
+use Rattle.rules.specs.Gasket.{effectiveWidth, reactionDiameter}
+use Rattle.rules.specs.Bolts.{boltArea}
+use Rattle.rules.specs.Causes.{firstCause, endplateCauses, blindFlangeLimits}
+use Rattle.rules.specs.declared.EndplateSheet.{EndplateSheet}
+use Rattle.rules.specs.declared.BlindFlangeSheet.{BlindFlangeSheet}
+use Rattle.rules.proofs.Order.{none-applies}
+use Rattle.rules.proofs.Bounds.{effectiveWidth-most}
+
+pub record EndplateAccepted (s : EndplateSheet) : Type 0 where
+  pub pressure : s .pressure ≤ 2 ^ 11
+  pub stressed : endplateStress (s .form) (s .material) (s .shell) (s .temperature) ≢ 0
+  pub diameter : s .diameter ≤ 2 ^ 15
+  pub allowance : s .allowance ≤ 2 ^ 10
+
+pub endplate-accepted : (s : EndplateSheet) → firstCause (endplateCauses s) ≡ 0 → EndplateAccepted s
+unfolding endplateCauses
+endplate-accepted s e =
+    let n = none-applies (endplateCauses s) tt e in
+    record {
+      pressure = let h = n 3 1 in omega (arith, ltb-false);
+      stressed = eqb-false _ _ (n 5 0);
+      diameter = let h = n 6 1 in omega (arith, ltb-false);
+      allowance = let h = n 7 0 in omega (arith, ltb-false);
+    }
+
+pub record BlindFlangeAccepted (s : BlindFlangeSheet) : Type 0 where
+  pub pressure : s .pressure ≤ 2 ^ 11
+  pub stressed : designStress (s .material) (s .temperature) ≢ 0
+  pub od : s .od ≤ 2 ^ 15
+  pub od-least : 1 ≤ s .od
+  pub allowance : s .allowance ≤ 2 ^ 10
+  pub width : effectiveWidth (s .width) ≤ 2 ^ 11
+  pub m : s .m ≤ 2 ^ 11
+  pub y : s .y ≤ 2 ^ 11
+  pub area : boltArea (s .root) (s .count) ≤ 2 ^ 24
+  pub sa : s .sa ≤ 2 ^ 9
+  pub sb : s .sb ≤ 2 ^ 9
+  pub sb-least : 1 ≤ s .sb
+  pub ratio : s .sa ≤ 4 * s .sb
+  pub circle-least : s .od ≤ s .circle
+  pub circle-most : 2 * s .circle ≤ 3 * reactionDiameter (s .od) (s .width)
+
+area-most :
+    (bolt root count : ℕ) → bolt ≤ 2 ^ 7 → 100 * root ≤ 785 * (bolt * bolt) → count ≤ 2 ^ 7 → count * root ≤ 2 ^ 24
+area-most bolt root count hb hr hc =
+    let root-most : root ≤ 128614 = omega (arith, mul-le-mul hb hb) in
+    omega (arith, mul-le-mul hc root-most)
+
+pub blind-flange-accepted : (s : BlindFlangeSheet) → firstCause (blindFlangeLimits s) ≡ 0 → BlindFlangeAccepted s
+unfolding blindFlangeLimits
+blind-flange-accepted s e =
+    let n = none-applies (blindFlangeLimits s) tt e in
+    record {
+      pressure = let h = n 1 1 in omega (arith, ltb-false);
+      stressed = eqb-false _ _ (n 3 0);
+      od = let h = n 4 1 in omega (arith, ltb-false);
+      od-least = let h = n 4 0 in omega (arith, ltb-false);
+      allowance = let h = n 5 0 in omega (arith, ltb-false);
+      width = omega (arith, effectiveWidth-most (s .width) (let h = n 6 1 in omega (arith, ltb-false)));
+      m = let h = n 7 0 in omega (arith, ltb-false);
+      y = let h = n 7 1 in omega (arith, ltb-false);
+      area =
+          let bolt = n 8 1 in
+          let root = n 8 3 in
+          let count = n 8 5 in
+          area-most (s .bolt) (s .root) (s .count)
+          (omega (arith, ltb-false)) (omega (arith, ltb-false)) (omega (arith, ltb-false));
+      sa = let h = n 9 1 in omega (arith, ltb-false);
+      sb = let h = n 9 3 in omega (arith, ltb-false);
+      sb-least = omega (arith, eqb-false (s .sb) 0 (n 9 2));
+      ratio = let h = n 9 4 in omega (arith, ltb-false);
+      circle-least = let h = n 10 0 in omega (arith, ltb-false);
+      circle-most = let h = n 10 1 in omega (arith, ltb-false);
+    }

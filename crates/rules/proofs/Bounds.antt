@@ -1,0 +1,100 @@
+-- Bounds of the figures: what makes the products of an accepted sheet fit. Assumes nothing.
+use mathlib.Core.Path.{_≡_, refl}
+use mathlib.Core.Logic.{_≢_}
+use mathlib.Core.Bool.{Bool, true, false, cond}
+use Prim.Native.Nat.{ℕ, _+_, _-_, _*_, _/_, _^_, min, _≤_}
+use native.Mathlib.Nat.{mul-le-mul, mul-le-mul-left}
+use native.Mathlib.Omega.{arith}
+use borrow.Author.Tests.{leb-true}
+use lib.Dec.{eqb}
+use Rattle.tables.specs.DesignStress.{designStress}
+use Rattle.tables.specs.Laws.{stress-most}
+use Rattle.root.specs.Least.{least-most}
+use Rattle.root.specs.Laws.{ceilDiv-le, leastRootOver-least}
+use Rattle.rules.specs.Endplate.{formA, endplateStress, endplateThickness}
+use Rattle.rules.specs.BlindFlange.{moment, needSide, flangeThickness, edgeUnder}
+use Rattle.rules.specs.Gasket.{narrow, wideWidth, effectiveWidth, reactionDiameter}
+use Rattle.rules.specs.Loads.{exactOperatingLoad, exactSeatingLoad, operatingLoad, seatingLoad, flangeLoad}
+use Rattle.rules.proofs.Products.{ring-products}
+use Rattle.rules.proofs.LeastThickness.{endplate-factor, flange-factor}
+use Rattle.rules.proofs.LeastThickness.{endplateThickness-least, flangeThickness-least, edgeUnder-least}
+
+-- ---- the gasket
+
+pub wideWidth-most : (n k : ℕ) → 31752 * n ≤ 1000 * (k * k) → wideWidth n ≤ k
+unfolding wideWidth
+wideWidth-most n k h = least-most k (leastRootOver-least (31752 * n) 1000 (omega arith)) h
+
+pub effectiveWidth-most : (n : ℕ) → n ≤ 2 ^ 10 → effectiveWidth n ≤ 2 ^ 11
+unfolding effectiveWidth
+effectiveWidth-most n h = by-width (narrow n) refl
+  where
+    by-width : (b : Bool) → narrow n ≡ b → cond b (5 * n) (10 * wideWidth n) ≤ 2 ^ 11
+    by-width true e = omega (arith, leb-true)
+    by-width false e = omega (arith, wideWidth-most n 181 (omega arith))
+
+-- G lies 2·b inside od
+pub inset : (od n : ℕ) → reactionDiameter od n ≡ od - effectiveWidth n / 5
+unfolding reactionDiameter effectiveWidth
+inset od n = by-width (narrow n)
+  where
+    by-width : (b : Bool) → od - cond b n (2 * wideWidth n) ≡ od - cond b (5 * n) (10 * wideWidth n) / 5
+    by-width true = omega arith
+    by-width false = omega arith
+
+-- ---- the loads
+
+pub operatingLoad-most :
+    {G b m P : ℕ} →
+    G ≤ 2 ^ 15 →
+    b ≤ 2 ^ 11 →
+    m ≤ 2 ^ 11 →
+    P ≤ 2 ^ 11 →
+    operatingLoad (exactOperatingLoad G b m P) ≤ 2 ^ 26
+unfolding operatingLoad exactOperatingLoad
+operatingLoad-most hG hb hm hP =
+    ceilDiv-le _ (10 ^ 10) (2 ^ 26) (omega arith) .1 (omega (arith, ring-products hG hb hm hP))
+
+pub seatingLoad-most :
+    {G b y : ℕ} → G ≤ 2 ^ 15 → b ≤ 2 ^ 11 → y ≤ 2 ^ 11 → seatingLoad (exactSeatingLoad G b y) ≤ 2 ^ 26
+unfolding seatingLoad exactSeatingLoad
+seatingLoad-most hG hb hy =
+    ceilDiv-le _ (10 ^ 6) (2 ^ 26) (omega arith) .1 (omega (arith, ring-products hG hb hy hy))
+
+-- sa ≤ 4·sb bounds W by the other loads and the area
+pub flangeLoad-most :
+    (Wm1 Wm2 A sa sb : ℕ) →
+    sa ≤ 2 ^ 9 →
+    1 ≤ sb →
+    sa ≤ 4 * sb →
+    flangeLoad Wm1 Wm2 A sa sb ≤ 2 * Wm1 + Wm2 + 26 * A
+unfolding flangeLoad
+flangeLoad-most Wm1 Wm2 A sa sb ha hb ratio =
+    ceilDiv-le _ (20 * sb) (2 * Wm1 + Wm2 + 26 * A) (omega arith) .1
+    (omega (arith, mul-le-mul-left Wm1 ratio, mul-le-mul-left (A * sb) ha))
+
+-- ---- the stress of an endplate
+
+pub endplateStress-most : (form m shell t : ℕ) → endplateStress form m shell t ≤ 2 ^ 7
+unfolding endplateStress
+endplateStress-most form m shell t = by-form (eqb form formA)
+  where
+    by-form : (b : Bool) → cond b (designStress m t) (min (designStress m t) (designStress shell t)) ≤ 2 ^ 7
+    by-form true = stress-most m t
+    by-form false = omega (arith, stress-most m t)
+
+-- ---- the thicknesses: at most 2³², since the right sides are at most 2⁶⁴
+
+pub endplateThickness-most :
+    (form : ℕ) {F P d : ℕ} → F ≢ 0 → P ≤ 2 ^ 11 → d ≤ 2 ^ 15 → endplateThickness form F P d ≤ 2 ^ 32
+endplateThickness-most form {F} {P} {d} hF hP hd =
+    least-most (2 ^ 32) (endplateThickness-least form F P d hF)
+    (omega (arith, mul-le-mul hP (mul-le-mul hd hd), endplate-factor form F hF))
+
+module _ (S G C : ℕ) (hS : 1 ≤ S) (hG : 1 ≤ G) where
+  pub flangeThickness-most : (P Wm1 : ℕ) → needSide G P C Wm1 ≤ 2 ^ 64 → flangeThickness S G P C Wm1 ≤ 2 ^ 32
+  flangeThickness-most P Wm1 h =
+      least-most (2 ^ 32) (flangeThickness-least S G C hS hG P Wm1) (omega (arith, flange-factor S G hS hG))
+
+  pub edgeUnder-most : (W : ℕ) → moment W C G ≤ 2 ^ 64 → edgeUnder S G C W ≤ 2 ^ 32
+  edgeUnder-most W h = least-most (2 ^ 32) (edgeUnder-least S G C hS hG W) (omega (arith, flange-factor S G hS hG))

@@ -1,0 +1,120 @@
+-- Demand 3, as theorems of the definitions: what is accepted satisfies the exact inequalities, and how nearly.
+-- Assumes nothing.
+use mathlib.Core.Path.{_≡_, refl}
+use Prim.Native.Nat.{ℕ, _-_, _*_, _^_, _≤_}
+use native.Mathlib.Nat.{mul-le-mul-left, mul-le-mul-right}
+use native.Mathlib.Omega.{arith}
+use Rattle.tables.specs.DesignStress.{designStress}
+use Rattle.root.specs.Least.{Least}
+use Rattle.root.specs.Laws.{square-le}
+use Rattle.rules.specs.Endplate.{endplateStress}
+use Rattle.rules.specs.Gasket.{effectiveWidth, reactionDiameter}
+use Rattle.rules.specs.Loads.{operatingLoad, seatingLoad, flangeLoad}
+use Rattle.rules.specs.Bolts.{boltArea}
+use Rattle.rules.specs.BlindFlange.{edgeUnder}
+use Rattle.rules.specs.Figures.{ambient, endplateFigures, blindFlangeFigures}
+use Rattle.rules.specs.Causes.{firstCause, endplateCauses, blindFlangeLimits}
+use Rattle.rules.specs.Exact.{EndplateHolds, ColdEdgeHolds, HotEdgeHolds, Near, NeedExact, EdgeExact}
+use Rattle.rules.specs.Exact.{sheetV1, sheetV2, sheetV}
+use Rattle.rules.specs.declared.EndplateSheet.{EndplateSheet}
+use Rattle.rules.specs.declared.BlindFlangeSheet.{BlindFlangeSheet}
+use Rattle.rules.proofs.Accepted.{BlindFlangeAccepted, endplate-accepted, blind-flange-accepted}
+use Rattle.rules.proofs.LeastThickness.{endplateThickness-least, flangeThickness-least, edgeUnder-least}
+use Rattle.rules.proofs.FlangeBounds.{Stresses, stresses, Ring, ring}
+use Rattle.rules.proofs.RoundedLoads.{operating-low, operating-high, flange-low, flange-high}
+use Rattle.rules.proofs.Accuracy.{loaded, near-map, near-both}
+
+-- ---- endplates
+
+pub endplate-least :
+    (s : EndplateSheet) →
+    firstCause (endplateCauses s) ≡ 0 →
+    let F = endplateStress (s .form) (s .material) (s .shell) (s .temperature) in
+    Least (EndplateHolds (s .form) F (s .pressure) (s .diameter)) (endplateFigures s .thickness)
+unfolding endplateFigures
+endplate-least s e = endplateThickness-least (s .form) _ (s .pressure) (s .diameter) (endplate-accepted s e .stressed)
+
+-- ---- blind flanges: an instance of the argument for each thickness
+
+-- the larger a thickness, the more it satisfies
+rises : (x f t u : ℕ) → t ≤ u → x ≤ f * (t * t) → x ≤ f * (u * u)
+rises x f t u l h = omega (arith, mul-le-mul-left f (square-le l))
+
+module _ (s : BlindFlangeSheet) (e : firstCause (blindFlangeLimits s) ≡ 0) where
+  a : BlindFlangeAccepted s
+  a = blind-flange-accepted s e
+
+  abbrev S : ℕ
+  S = designStress (s .material) (s .temperature)
+
+  abbrev S0 : ℕ
+  S0 = designStress (s .material) ambient
+
+  abbrev G : ℕ
+  G = reactionDiameter (s .od) (s .width)
+
+  abbrev lever : ℕ
+  lever = s .circle - G
+
+  stress : Stresses s a S S0
+  stress = stresses s a refl refl
+
+  diameter : Ring s a G (effectiveWidth (s .width))
+  diameter = ring s a refl refl
+
+  -- Wm1 is at most 1 N too much
+  slack-hot : 954500 * 10 ^ 10 * lever ≤ 10 ^ 10 * (100 * S * G) * 797
+  slack-hot = omega (arith, mul-le-mul-right G (stress .least), a .circle-most)
+
+  -- W is at most 3 N too much
+  slack-cold : 954500 * (6 * 10 ^ 11 * s .sb) * lever ≤ 2 * 10 ^ 11 * s .sb * (100 * S0 * G) * 797
+  slack-cold =
+      omega (
+        arith,
+        mul-le-mul-left (s .sb) (mul-le-mul-right G (stress .ambient-least)),
+        mul-le-mul-left {m = 2 * lever} {n = G} (s .sb) (omega (arith, a .circle-most)),
+      )
+
+  abbrev V1 : ℕ
+  V1 = sheetV1 s
+
+  abbrev Wm1 : ℕ
+  Wm1 = operatingLoad V1
+
+  pub need-near : NeedExact s (blindFlangeFigures s .thickness)
+  unfolding blindFlangeFigures
+  need-near =
+      near-map (λ t. omega arith)
+      (loaded (10 ^ 10) (100 * S * G) (3 * (G * G * G) * s .pressure) Wm1 V1 (10 ^ 10) lever _ _
+      (omega arith) (operating-low V1) (operating-high V1) refl
+      (flangeThickness-least S G (s .circle) (omega (arith, stress .least)) (diameter .least) (s .pressure) Wm1)
+      slack-hot)
+
+  edge-hot : Near (HotEdgeHolds S G (s .circle) V1) (edgeUnder S G (s .circle) Wm1)
+  edge-hot =
+      near-map (λ t. omega arith)
+      (loaded (10 ^ 10) (100 * S * G) 0 Wm1 V1 (10 ^ 10) lever _ _
+      (omega arith) (operating-low V1) (operating-high V1) (omega arith)
+      (edgeUnder-least S G (s .circle) (omega (arith, stress .least)) (diameter .least) Wm1)
+      slack-hot)
+
+  abbrev A : ℕ
+  A = boltArea (s .root) (s .count)
+
+  abbrev W : ℕ
+  W = flangeLoad Wm1 (seatingLoad (sheetV2 s)) A (s .sa) (s .sb)
+
+  edge-cold : Near (ColdEdgeHolds (s .sb) S0 G (s .circle) (sheetV s)) (edgeUnder S0 G (s .circle) W)
+  edge-cold =
+      near-map (λ t. omega arith)
+      (loaded (2 * 10 ^ 11 * s .sb) (100 * S0 * G) 0 W (sheetV s) (6 * 10 ^ 11 * s .sb) lever _ _
+      (omega (arith, a .sb-least))
+      (flange-low V1 (sheetV2 s) A (s .sa) (s .sb) (a .sb-least) (a .ratio))
+      (flange-high V1 (sheetV2 s) A (s .sa) (s .sb) (a .sb-least) (a .ratio))
+      (omega arith)
+      (edgeUnder-least S0 G (s .circle) (omega (arith, stress .ambient-least)) (diameter .least) W)
+      slack-cold)
+
+  pub edge-near : EdgeExact s (blindFlangeFigures s .«edge_thickness»)
+  unfolding blindFlangeFigures
+  edge-near = near-both (rises _ _) (rises _ _) edge-cold edge-hot

@@ -1,0 +1,75 @@
+-- The plate rule: the choice is the smallest listed plate that serves, and there is one wherever one serves.
+-- Assumes nothing.
+use mathlib.Core.Path.{_≡_, refl, subst}
+use mathlib.Core.Bool.{Bool, true, false, _&&_, cond, false≢true}
+use mathlib.Core.List.{List, [], _∷_, foldl, List·Memᴰ·head, List·Memᴰ·tail, List·Memᴰ·not-nil}
+use Prim.Native.Nat.{ℕ, _≤_}
+use native.Mathlib.Nat.{le-refl}
+use native.Mathlib.Omega.{arith}
+use borrow.Author.Tests.{leb-true, ltb-true, ltb-false, le-leb}
+use lib.Dec.{ltb}
+use Rattle.rules.specs.Plates.{serves, smaller, better, smallestServing, Listed, NotAbove, Offered, Smallest}
+use Rattle.rules.specs.declared.plates.Choice.{Choice}
+use Rattle.rules.specs.declared.plates.Choice.the-variants.{Plate, NoPlate}
+
+and-true : (a b : Bool) → (a && b) ≡ true → (a ≡ true) × (b ≡ true)
+and-true true b e = (refl, e)
+and-true false b e = absurd (false≢true e)
+
+module _ (total : ℕ) where
+  -- a choice, with one plate more, is not above what it was not above
+  keeps : (c : Choice) (q x : ℕ) → NotAbove c x → NotAbove (better total c q) x
+  keeps NoPlate q x h = absurd h
+  keeps (Plate p) q x h = by-test (serves total q && ltb q p) refl
+    where
+      by-test : (b : Bool) → (serves total q && ltb q p) ≡ b → NotAbove (cond b (Plate q) (Plate p)) x
+      by-test true e = omega (arith, ltb-true q p (and-true (serves total q) (ltb q p) e .1))
+      by-test false e = h
+
+  served : (q : ℕ) → total ≤ q → serves total q ≡ true
+  served q h = le-leb total _ (omega arith)
+
+  -- nor above the plate, if that serves
+  covers : (c : Choice) (q : ℕ) → total ≤ q → NotAbove (better total c q) q
+  covers NoPlate q h = rw (served q h) (le-refl q)
+  covers (Plate p) q h = rw (served q h) (by-test (ltb q p) refl)
+    where
+      by-test : (b : Bool) → ltb q p ≡ b → NotAbove (cond b (Plate q) (Plate p)) q
+      by-test true e = le-refl q
+      by-test false e = ltb-false q p e
+
+  run-keeps : (ps : List ℕ) (c : Choice) (x : ℕ) → NotAbove c x → NotAbove (foldl (better total) c ps) x
+  run-keeps [] c x h = h
+  run-keeps (q ∷ ps) c x h = run-keeps ps (better total c q) x (keeps c q x h)
+
+  run-covers : (ps : List ℕ) (c : Choice) (x : ℕ) → Listed x ps → total ≤ x → NotAbove (foldl (better total) c ps) x
+  run-covers [] c x m h = absurd (List·Memᴰ·not-nil m)
+  run-covers (q ∷ ps) c x (List·Memᴰ·head e) h =
+      run-keeps ps (better total c q) x (subst (λ (y : ℕ). NotAbove (better total c y) x) e (covers c x h))
+  run-covers (q ∷ ps) c x (List·Memᴰ·tail m) h = run-covers ps (better total c q) x m h
+
+  -- what is chosen is listed, and serves
+  offers :
+      (all : List ℕ) (c : Choice) (q : ℕ) → Offered total all c → Listed q all → Offered total all (better total c q)
+  offers all c q o m = by-test (serves total q && smaller q c) refl
+    where
+      by-test : (b : Bool) → (serves total q && smaller q c) ≡ b → Offered total all (cond b (Plate q) c)
+      by-test true e = (m, leb-true total q (and-true (serves total q) (smaller q c) e .0))
+      by-test false e = o
+
+  run-offers :
+      (all ps : List ℕ) (c : Choice) →
+      ((q : ℕ) → Listed q ps → Listed q all) →
+      Offered total all c →
+      Offered total all (foldl (better total) c ps)
+  run-offers all [] c i o = o
+  run-offers all (q ∷ ps) c i o =
+      run-offers all ps (better total c q)
+      (λ x m. i x (List·Memᴰ·tail m)) (offers all c q o (i q (List·Memᴰ·head refl)))
+
+  pub smallest : (plates : List ℕ) → Smallest total plates (smallestServing total plates)
+  unfolding smallestServing
+  smallest plates = record {
+    offered = run-offers plates plates NoPlate (λ q m. m) tt;
+    least = λ plate m h. run-covers plates NoPlate plate m h;
+  }

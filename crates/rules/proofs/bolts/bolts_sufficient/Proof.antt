@@ -1,0 +1,22 @@
+-- `bolts::bolts_sufficient` meets its contract. Assumes nothing.
+use mathlib.Core.Path.{refl}
+use native.Mathlib.Omega.{arith}
+use borrow.Author.Needs.{needs}
+use Rattle.rules.specs.Bolts.{boltsSufficient}
+use Rattle.rules.proofs.Products.{bolt-products}
+use Rattle.rules.proofs.bolts.bolts_sufficient.Statement.{statement}
+use Rattle.rules.proofs.bolts.bolts_sufficient.Tie as tie
+
+returns : tie.Need-returns
+unfolding boltsSufficient
+returns c = refl
+
+pub bolts-sufficient-spec : {M : Type 1} → statement M
+bolts-sufficient-spec =
+    tie.close
+    (tie.spec
+    (λ c. search needs)
+    (λ c. omega (arith, bolt-products (c .pre)))
+    (λ c. search needs)
+    (λ c. omega (arith, bolt-products (c .pre)))
+    returns)

@@ -1,0 +1,18 @@
+-- `causes::bolts_refused` meets its contract: the square of a bolt diameter that is in its range fits. Assumes nothing.
+use native.Mathlib.Nat.{mul-le-mul}
+use native.Mathlib.Omega.{arith}
+use borrow.Author.Needs.{needs}
+use Rattle.rules.proofs.Rules.{decide}
+use Rattle.rules.proofs.causes.bolts_refused.Statement.{statement}
+use Rattle.rules.proofs.causes.bolts_refused.Tie as tie
+
+pub bolts-refused-spec : {M : Type 1} → statement M
+bolts-refused-spec =
+    tie.close
+    (tie.spec
+    (λ c. search decide)
+    (λ c. search decide)
+    (λ c. omega (arith, mul-le-mul (c .if2 .left) (c .if2 .left)))
+    (λ c. omega (arith, mul-le-mul (c .if2 .left) (c .if2 .left)))
+    (λ c. search needs)
+    (λ c. search decide))

@@ -1,0 +1,74 @@
+-- Demand 3: the exact inequalities of document 01, on whole numbers, and how near to them a thickness is.
+use Prim.Native.Nat.{ℕ, _+_, _-_, _*_, _^_, _≤_}
+use Rattle.tables.specs.DesignStress.{designStress}
+use Rattle.root.specs.Least.{Least}
+use Rattle.rules.specs.Endplate.{endplateStress, formFactor}
+use Rattle.rules.specs.Gasket.{effectiveWidth, reactionDiameter}
+use Rattle.rules.specs.Loads.{exactOperatingLoad, exactSeatingLoad, exactFlangeLoad}
+use Rattle.rules.specs.Bolts.{boltArea}
+use Rattle.rules.specs.Figures.{ambient}
+use Rattle.rules.specs.declared.EndplateSheet.{EndplateSheet}
+use Rattle.rules.specs.declared.BlindFlangeSheet.{BlindFlangeSheet}
+use Rattle.rules.specs.declared.Answer.{Answer}
+use Rattle.rules.specs.declared.Answer.the-variants.{Endplate, BlindFlange, Refused}
+
+-- ---- the inequalities, each of a number T, e or edge in hundredths of a mm
+
+-- need of an endplate: 40·F·T² ≥ P·d², or 30·F·T² ≥ P·d² for form d
+abbrev pub EndplateHolds : ℕ → ℕ → ℕ → ℕ → ℕ → Type 0
+EndplateHolds form F P d T = P * (d * d) ≤ formFactor form * F * (T * T)
+
+-- need of a blind flange: 10¹²·S·G·e² ≥ 3·10¹⁰·G³·P + 954500·V1·(C − G)
+abbrev pub NeedHolds : ℕ → ℕ → ℕ → ℕ → ℕ → ℕ → Type 0
+NeedHolds S G P C V1 e = 3 * 10 ^ 10 * (G * G * G) * P + 954500 * V1 * (C - G) ≤ 10 ^ 12 * S * G * (e * e)
+
+-- edge: both 2·10¹³·sb·S0·G·edge² ≥ 954500·V·(C − G) and 10¹²·S·G·edge² ≥ 954500·V1·(C − G)
+abbrev pub ColdEdgeHolds : ℕ → ℕ → ℕ → ℕ → ℕ → ℕ → Type 0
+ColdEdgeHolds sb S0 G C «V» edge = 954500 * «V» * (C - G) ≤ 2 * 10 ^ 13 * sb * S0 * G * (edge * edge)
+
+abbrev pub HotEdgeHolds : ℕ → ℕ → ℕ → ℕ → ℕ → Type 0
+HotEdgeHolds S G C V1 edge = 954500 * V1 * (C - G) ≤ 10 ^ 12 * S * G * (edge * edge)
+
+-- ---- the demand
+
+-- r satisfies P whatever its size, and where r is 4.00 mm or more no whole number lower by 2 or more does
+pub record Near (P : ℕ → Type 0) (r : ℕ) : Type 0 where
+  pub holds : P r
+  pub fails : 400 ≤ r → (t : ℕ) → t + 2 ≤ r → ¬ P t
+
+-- the need of an accepted endplate is the least whole number that satisfies its inequality
+abbrev pub EndplateExact : EndplateSheet → Answer → Type 0
+EndplateExact s (Endplate f plate) =
+    let F = endplateStress (s .form) (s .material) (s .shell) (s .temperature) in
+    Least (EndplateHolds (s .form) F (s .pressure) (s .diameter)) (f .thickness)
+EndplateExact s (BlindFlange f plate) = ⊥
+EndplateExact s (Refused cause figure) = Unit
+
+-- the exact loads of a sheet
+abbrev pub sheetV1 : BlindFlangeSheet → ℕ
+sheetV1 s = exactOperatingLoad (reactionDiameter (s .od) (s .width)) (effectiveWidth (s .width)) (s .m) (s .pressure)
+
+abbrev pub sheetV2 : BlindFlangeSheet → ℕ
+sheetV2 s = exactSeatingLoad (reactionDiameter (s .od) (s .width)) (effectiveWidth (s .width)) (s .y)
+
+abbrev pub sheetV : BlindFlangeSheet → ℕ
+sheetV s = exactFlangeLoad (sheetV1 s) (sheetV2 s) (boltArea (s .root) (s .count)) (s .sa) (s .sb)
+
+-- the need of an accepted blind flange is near its inequality, and the edge near its two: it fails where it misses one
+abbrev pub NeedExact : BlindFlangeSheet → ℕ → Type 0
+NeedExact s need =
+    let S = designStress (s .material) (s .temperature) in
+    let G = reactionDiameter (s .od) (s .width) in
+    Near (NeedHolds S G (s .pressure) (s .circle) (sheetV1 s)) need
+
+abbrev pub EdgeExact : BlindFlangeSheet → ℕ → Type 0
+EdgeExact s edge =
+    let S = designStress (s .material) (s .temperature) in
+    let S0 = designStress (s .material) ambient in
+    let G = reactionDiameter (s .od) (s .width) in
+    Near (λ t. ColdEdgeHolds (s .sb) S0 G (s .circle) (sheetV s) t × HotEdgeHolds S G (s .circle) (sheetV1 s) t) edge
+
+abbrev pub BlindFlangeExact : BlindFlangeSheet → Answer → Type 0
+BlindFlangeExact s (Endplate f plate) = ⊥
+BlindFlangeExact s (BlindFlange f plate) = NeedExact s (f .thickness) × EdgeExact s (f .«edge_thickness»)
+BlindFlangeExact s (Refused cause figure) = Unit

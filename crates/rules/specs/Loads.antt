@@ -1,0 +1,32 @@
+-- Bolt loads (document 01, Blind flanges; ASME Section VIII Division 1, Appendix 2), in N. G in tenths of a mm, b in
+-- hundredths; m in hundredths, y in tenths of N/mm²; P in thousandths of N/mm²; A in tenths of mm², sa and sb in N/mm².
+use Prim.Native.Nat.{ℕ, _+_, _*_, _^_, max}
+use Rattle.root.specs.Root.{ceilDiv}
+
+-- ---- exact: fractions multiplied out to whole numbers
+
+-- V1: exact Wm1 times 10¹⁰
+unfoldable pub exactOperatingLoad : ℕ → ℕ → ℕ → ℕ → ℕ
+exactOperatingLoad G b m P = 78500 * (G * G) * P + 628 * b * G * m * P
+
+-- V2: exact Wm2 times 10⁶
+unfoldable pub exactSeatingLoad : ℕ → ℕ → ℕ → ℕ
+exactSeatingLoad G b y = 314 * b * G * y
+
+-- V: exact W times 2·10¹¹·sb
+unfoldable pub exactFlangeLoad : ℕ → ℕ → ℕ → ℕ → ℕ → ℕ
+exactFlangeLoad V1 V2 A sa sb = max (10 * V1 * sa) (10 ^ 5 * V2 * sb) + 10 ^ 10 * A * sa * sb
+
+-- ---- rounded up to the newton
+
+-- Wm1: the least whole number with 10¹⁰·Wm1 ≥ V1
+unfoldable pub operatingLoad : ℕ → ℕ
+operatingLoad V1 = ceilDiv V1 (10 ^ 10)
+
+-- Wm2: the least with 10⁶·Wm2 ≥ V2
+unfoldable pub seatingLoad : ℕ → ℕ
+seatingLoad V2 = ceilDiv V2 (10 ^ 6)
+
+-- W: the least with 20·sb·W ≥ the greater of 10·Wm1·sa and 10·Wm2·sb, plus A·sa·sb
+unfoldable pub flangeLoad : ℕ → ℕ → ℕ → ℕ → ℕ → ℕ
+flangeLoad Wm1 Wm2 A sa sb = ceilDiv (max (10 * Wm1 * sa) (10 * Wm2 * sb) + A * sa * sb) (20 * sb)

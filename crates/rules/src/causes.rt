@@ -1,0 +1,147 @@
+// Causes of a refusal: the tests of 2 to 12, and the first that applies.
+//
+// `|` stands where `||` would do: the answer is then the definition's own expression.
+use crate::BlindFlangeSheet;
+use crate::EndplateSheet;
+use crate::FORM_A;
+use crate::gasket::reaction_diameter;
+use crate::stress::endplate_stress;
+ghost use mathlib.Core.Path.{_≡_};
+ghost use mathlib.Core.Bool.{cond};
+ghost use lib.Dec.{eqb};
+ghost use Rattle.rules.specs.Causes.{any, firstCause, endplateCauses, blindFlangeLimits};
+ghost use Rattle.rules.specs.Causes.{materialRefused, shellRefused, formRefused, pressureRefused};
+ghost use Rattle.rules.specs.Causes.{temperatureRefused, noStress, diameterRefused, allowanceRefused};
+ghost use Rattle.rules.specs.Causes.{widthRefused, gasketRefused, boltsRefused, boltStressRefused, circleRefused};
+
+fn material_refused(material: u32) -> bool
+    ensures { λ r. ⌜ r ≡ any (materialRefused material) ⌝ }
+{
+    (material < 1) | (11 < material) | (material == 7) | (material == 9) | (material == 11)
+}
+
+fn form_refused(form: u32) -> bool
+    ensures { λ r. ⌜ r ≡ any (formRefused form) ⌝ }
+{
+    (form < 1) | (3 < form)
+}
+
+fn shell_refused(form: u32, shell: u32) -> bool
+    ensures { λ r. ⌜ r ≡ any (shellRefused form shell) ⌝ }
+{
+    (11 < shell) | ((shell == 0) != (form == FORM_A))
+}
+
+fn pressure_refused(pressure: u32) -> bool
+    ensures { λ r. ⌜ r ≡ any (pressureRefused pressure) ⌝ }
+{
+    (pressure == 0) | (2000 < pressure)
+}
+
+fn temperature_refused(temperature: u32) -> bool
+    ensures { λ r. ⌜ r ≡ any (temperatureRefused temperature) ⌝ }
+{
+    300 < temperature
+}
+
+fn no_stress(stress: u32) -> bool
+    ensures { λ r. ⌜ r ≡ any (noStress stress) ⌝ }
+{
+    stress == 0
+}
+
+fn diameter_refused(diameter: u32) -> bool
+    ensures { λ r. ⌜ r ≡ any (diameterRefused diameter) ⌝ }
+{
+    (diameter < 500) | (20000 < diameter)
+}
+
+fn allowance_refused(allowance: u32) -> bool
+    ensures { λ r. ⌜ r ≡ any (allowanceRefused allowance) ⌝ }
+{
+    1000 < allowance
+}
+
+fn width_refused(od: u32, width: u32) -> bool
+    ensures { λ r. ⌜ r ≡ any (widthRefused od width) ⌝ }
+{
+    (width < 100) | (500 < width) | ((od as u64) < 4 * (width as u64))
+}
+
+fn gasket_refused(m: u32, y: u32) -> bool
+    ensures { λ r. ⌜ r ≡ any (gasketRefused m y) ⌝ }
+{
+    (650 < m) | (1800 < y)
+}
+
+fn bolts_refused(bolt: u32, root: u32, count: u32) -> bool
+    ensures { λ r. ⌜ r ≡ any (boltsRefused bolt root count) ⌝ }
+{
+    if bolt < 12 {
+        return true;
+    }
+    if 76 < bolt {
+        return true;
+    }
+    let d = bolt as u64;
+    (root == 0) | (785 * (d * d) < 100 * (root as u64)) | (count < 4) | (100 < count)
+}
+
+fn bolt_stress_refused(sa: u32, sb: u32) -> bool
+    ensures { λ r. ⌜ r ≡ any (boltStressRefused sa sb) ⌝ }
+{
+    (sa == 0) | (400 < sa) | (sb == 0) | (400 < sb) | (4 * (sb as u64) < sa as u64)
+}
+
+fn circle_refused(circle: u32, od: u32, bolt: u32, g: u32) -> bool
+    ensures { λ r. ⌜ r ≡ any (circleRefused circle od bolt g) ⌝ }
+{
+    let c = circle as u64;
+    (c < (od as u64) + 10 * (bolt as u64)) | (3 * (g as u64) < 2 * c)
+}
+
+// The cause found so far; where there is none, the one of this number if it applies.
+fn or_cause(found: u32, number: u32, applies: bool) -> u32
+    ensures { λ r. ⌜ r ≡ cond (eqb found 0) (cond applies number 0) found ⌝ }
+{
+    if found != 0 {
+        return found;
+    }
+    if applies { number } else { 0 }
+}
+
+// The first cause that applies to an endplate but for 14; 0 where none does.
+pub(crate) fn endplate_cause(s: EndplateSheet) -> u32
+    ensures { λ r. ⌜ r ≡ firstCause (endplateCauses s) ⌝ }
+{
+    let stress = endplate_stress(s.form, s.material, s.shell, s.temperature);
+    let k = or_cause(0, 2, form_refused(s.form));
+    let k = or_cause(k, 2, material_refused(s.material));
+    let k = or_cause(k, 2, shell_refused(s.form, s.shell));
+    let k = or_cause(k, 3, pressure_refused(s.pressure));
+    let k = or_cause(k, 4, temperature_refused(s.temperature));
+    let k = or_cause(k, 5, no_stress(stress));
+    let k = or_cause(k, 6, diameter_refused(s.diameter));
+    let k = or_cause(k, 7, allowance_refused(s.allowance));
+    k
+}
+
+// The first cause that applies to a blind flange, of 2 to 12; 0 where none does.
+pub(crate) fn blind_flange_limits(s: BlindFlangeSheet) -> u32
+    ensures { λ r. ⌜ r ≡ firstCause (blindFlangeLimits s) ⌝ }
+{
+    let stress = tables::design_stress(s.material, s.temperature);
+    let g = reaction_diameter(s.od, s.width);
+    let k = or_cause(0, 2, material_refused(s.material));
+    let k = or_cause(k, 3, pressure_refused(s.pressure));
+    let k = or_cause(k, 4, temperature_refused(s.temperature));
+    let k = or_cause(k, 5, no_stress(stress));
+    let k = or_cause(k, 6, diameter_refused(s.od));
+    let k = or_cause(k, 7, allowance_refused(s.allowance));
+    let k = or_cause(k, 8, width_refused(s.od, s.width));
+    let k = or_cause(k, 9, gasket_refused(s.m, s.y));
+    let k = or_cause(k, 10, bolts_refused(s.bolt, s.root, s.count));
+    let k = or_cause(k, 11, bolt_stress_refused(s.sa, s.sb));
+    let k = or_cause(k, 12, circle_refused(s.circle, s.od, s.bolt, g));
+    k
+}

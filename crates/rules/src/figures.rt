@@ -1,0 +1,63 @@
+// The figures of a report, from the numbers of a sheet. They are asked for where no limit is passed.
+use crate::BlindFlangeFigures;
+use crate::BlindFlangeSheet;
+use crate::EndplateFigures;
+use crate::EndplateSheet;
+use crate::bolts::bolt_area;
+use crate::compare::greater;
+use crate::gasket::effective_width;
+use crate::gasket::reaction_diameter;
+use crate::loads::flange_load;
+use crate::loads::operating_load;
+use crate::loads::seating_load;
+use crate::stress::endplate_stress;
+use crate::thickness::edge_thickness;
+use crate::thickness::endplate_thickness;
+use crate::thickness::flange_thickness;
+ghost use mathlib.Core.Path.{_≡_};
+ghost use Rattle.rules.specs.Causes.{firstCause, endplateCauses, blindFlangeLimits};
+ghost use Rattle.rules.specs.Figures.{endplateFigures, blindFlangeFigures};
+
+// The column of the stress cold, °C.
+const AMBIENT: u32 = 50;
+
+pub(crate) fn endplate_figures(s: EndplateSheet) -> EndplateFigures
+    requires { ⌜ firstCause (endplateCauses s) ≡ 0 ⌝ }
+    ensures { λ r. ⌜ r ≡ endplateFigures s ⌝ }
+{
+    let stress = endplate_stress(s.form, s.material, s.shell, s.temperature);
+    let thickness = endplate_thickness(s.form, stress, s.pressure, s.diameter);
+    EndplateFigures {
+        design_stress: stress as u64,
+        thickness,
+        total: thickness + (s.allowance as u64),
+    }
+}
+
+pub(crate) fn blind_flange_figures(s: BlindFlangeSheet) -> BlindFlangeFigures
+    requires { ⌜ firstCause (blindFlangeLimits s) ≡ 0 ⌝ }
+    ensures { λ r. ⌜ r ≡ blindFlangeFigures s ⌝ }
+{
+    let stress = tables::design_stress(s.material, s.temperature);
+    let ambient = tables::design_stress(s.material, AMBIENT);
+    let g = reaction_diameter(s.od, s.width);
+    let b = effective_width(s.width);
+    let operating = operating_load(g, b, s.m, s.pressure);
+    let seating = seating_load(g, b, s.y);
+    let area = bolt_area(s.root, s.count);
+    let flange = flange_load(operating, seating, area, s.sa, s.sb);
+    let thickness = flange_thickness(stress, g, s.pressure, s.circle, operating);
+    let edge = edge_thickness(stress, ambient, g, s.circle, operating, flange);
+    BlindFlangeFigures {
+        design_stress: stress as u64,
+        ambient_stress: ambient as u64,
+        reaction_diameter: g as u64,
+        effective_width: b,
+        operating_load: operating,
+        seating_load: seating,
+        flange_load: flange,
+        thickness,
+        edge_thickness: edge,
+        total: greater(thickness, edge) + (s.allowance as u64),
+    }
+}

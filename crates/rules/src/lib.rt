@@ -1,0 +1,193 @@
+// Sizing of flat endplates and blind flanges to BS 853-2:1996, clauses 5 and 8, on whole numbers.
+ghost use mathlib.Core.Path.{_≡_};
+ghost use Rattle.rules.specs.Answer.{endplateAnswer, blindFlangeAnswer, figureAt};
+ghost use Rattle.rules.specs.Exact.{EndplateExact, BlindFlangeExact};
+
+mod bolts;
+mod causes;
+mod compare;
+mod figures;
+mod gasket;
+mod loads;
+mod places;
+mod plates;
+mod stress;
+mod thickness;
+
+use plates::Choice;
+
+// Forms a and d of an endplate; c is 2.
+pub(crate) const FORM_A: u32 = 1;
+
+pub(crate) const FORM_D: u32 = 3;
+
+// Causes that are found after the limits: the bolts do not carry; no listed plate serves.
+const BOLTS_OVERLOADED: u32 = 13;
+
+const NO_PLATE: u32 = 14;
+
+// The numbers of an endplate's sheet, in the order of its lines.
+pub struct EndplateSheet {
+    // form: 1, 2, 3 for a, c, d.
+    pub form: u32,
+    // material: that of the plate, 1 to 11.
+    pub material: u32,
+    // shell: the material of the cylinder; 0 for form a.
+    pub shell: u32,
+    // temp: °C.
+    pub temperature: u32,
+    // pressure, P: thousandths of N/mm².
+    pub pressure: u32,
+    // dia, d: tenths of a mm.
+    pub diameter: u32,
+    // allow: hundredths of a mm.
+    pub allowance: u32,
+}
+
+// The numbers of a blind flange's sheet, in the order of its lines.
+pub struct BlindFlangeSheet {
+    // material: 1 to 11.
+    pub material: u32,
+    // temp: °C.
+    pub temperature: u32,
+    // pressure, P: thousandths of N/mm².
+    pub pressure: u32,
+    // allow: hundredths of a mm.
+    pub allowance: u32,
+    // od: outside contact diameter of the gasket, tenths of a mm.
+    pub od: u32,
+    // width, n: contact width of the gasket, tenths of a mm.
+    pub width: u32,
+    // m: gasket factor, hundredths.
+    pub m: u32,
+    // y: gasket seating stress, tenths of N/mm².
+    pub y: u32,
+    // circle, C: bolt circle, tenths of a mm.
+    pub circle: u32,
+    // bolt: bolt diameter, mm.
+    pub bolt: u32,
+    // root: root area of one bolt, tenths of mm².
+    pub root: u32,
+    // count: number of bolts.
+    pub count: u32,
+    // sa: bolt stress cold, N/mm².
+    pub sa: u32,
+    // sb: bolt stress at design temperature, N/mm².
+    pub sb: u32,
+}
+
+// The figures of an endplate's report but for the plate.
+pub struct EndplateFigures {
+    // stress, F: N/mm².
+    pub design_stress: u64,
+    // need, T: hundredths of a mm.
+    pub thickness: u64,
+    // total: hundredths of a mm.
+    pub total: u64,
+}
+
+// The figures of a blind flange's report but for the plate.
+pub struct BlindFlangeFigures {
+    // stress, S: N/mm².
+    pub design_stress: u64,
+    // cold, S0: N/mm².
+    pub ambient_stress: u64,
+    // g, G: tenths of a mm.
+    pub reaction_diameter: u64,
+    // b: hundredths of a mm.
+    pub effective_width: u64,
+    // wm1: N.
+    pub operating_load: u64,
+    // wm2: N.
+    pub seating_load: u64,
+    // w: N.
+    pub flange_load: u64,
+    // need, e: hundredths of a mm.
+    pub thickness: u64,
+    // edge: hundredths of a mm.
+    pub edge_thickness: u64,
+    // total: hundredths of a mm.
+    pub total: u64,
+}
+
+// What a calculation answers. The figure of a refusal is the total where no plate serves, else 0.
+pub enum Answer {
+    Endplate {
+        figures: EndplateFigures,
+        plate: u32,
+    },
+    BlindFlange {
+        figures: BlindFlangeFigures,
+        plate: u32,
+    },
+    Refused {
+        cause: u32,
+        figure: u64,
+    },
+}
+
+// The size of an endplate from a list of plates, or the first cause to refuse it.
+pub fn endplate(s: EndplateSheet, plates: &[u32]) -> Answer
+    ensures { λ r. ⌜ r ≡ endplateAnswer s (now (plates .entry)) ⌝ }
+    ensures exact { λ r. ⌜ EndplateExact s r ⌝ }
+{
+    let cause = causes::endplate_cause(s);
+    if cause != 0 {
+        return Answer::Refused { cause, figure: 0 };
+    }
+    let figures = figures::endplate_figures(s);
+    let total = figures.total;
+    let choice = plates::smallest_serving(total, plates);
+    match choice {
+        Choice::Plate(plate) => Answer::Endplate { figures, plate },
+        Choice::NoPlate => Answer::Refused {
+            cause: NO_PLATE,
+            figure: total,
+        },
+    }
+}
+
+// The size of a blind flange from a list of plates, or the first cause to refuse it.
+pub fn blind_flange(s: BlindFlangeSheet, plates: &[u32]) -> Answer
+    ensures { λ r. ⌜ r ≡ blindFlangeAnswer s (now (plates .entry)) ⌝ }
+    ensures exact { λ r. ⌜ BlindFlangeExact s r ⌝ }
+{
+    let cause = causes::blind_flange_limits(s);
+    if cause != 0 {
+        return Answer::Refused { cause, figure: 0 };
+    }
+    let figures = figures::blind_flange_figures(s);
+    let area = bolts::bolt_area(s.root, s.count);
+    let operating = figures.operating_load;
+    let seating = figures.seating_load;
+    let sufficient = bolts::bolts_sufficient(operating, seating, area, s.sa, s.sb);
+    if !sufficient {
+        return Answer::Refused {
+            cause: BOLTS_OVERLOADED,
+            figure: 0,
+        };
+    }
+    let total = figures.total;
+    let choice = plates::smallest_serving(total, plates);
+    match choice {
+        Choice::Plate(plate) => Answer::BlindFlange { figures, plate },
+        Choice::NoPlate => Answer::Refused {
+            cause: NO_PLATE,
+            figure: total,
+        },
+    }
+}
+
+// By place, for C: 0 the cause, 1 its figure, from 2 on the figures of the endplate's report; 0 at any other.
+pub fn endplate_figure(s: EndplateSheet, plates: &[u32], place: u32) -> u64
+    ensures { λ r. ⌜ r ≡ figureAt (endplateAnswer s (now (plates .entry))) place ⌝ }
+{
+    places::figure_at(endplate(s, plates), place)
+}
+
+// By place, for C: 0 the cause, 1 its figure, from 2 on the figures of the blind flange's report; 0 at any other.
+pub fn blind_flange_figure(s: BlindFlangeSheet, plates: &[u32], place: u32) -> u64
+    ensures { λ r. ⌜ r ≡ figureAt (blindFlangeAnswer s (now (plates .entry))) place ⌝ }
+{
+    places::figure_at(blind_flange(s, plates), place)
+}
