@@ -40,14 +40,8 @@ fn with_number(l: Line) -> Line {
     next
 }
 
-fn endplate(n: [u32; 64], count: usize) {
-    if count < 8 {
-        return;
-    }
-    if 64 < count {
-        return;
-    }
-    let s = EndplateSheet {
+fn endplate_sheet(n: [u32; 64]) -> EndplateSheet {
+    EndplateSheet {
         form: n[1],
         material: n[2],
         shell: n[3],
@@ -55,29 +49,11 @@ fn endplate(n: [u32; 64], count: usize) {
         pressure: n[5],
         diameter: n[6],
         allowance: n[7],
-    };
-    let plates = &n[8..count];
-    answered(rules::endplate(s, plates));
-    text(b" :");
-    endplate_places(s, plates);
-}
-
-fn endplate_places(s: EndplateSheet, plates: &[u32]) {
-    let mut place: u32 = 0;
-    while place < 8 {
-        number(rules::endplate_figure(s, plates, place));
-        place += 1;
     }
 }
 
-fn blind_flange(n: [u32; 64], count: usize) {
-    if count < 15 {
-        return;
-    }
-    if 64 < count {
-        return;
-    }
-    let s = BlindFlangeSheet {
+fn blind_flange_sheet(n: [u32; 64]) -> BlindFlangeSheet {
+    BlindFlangeSheet {
         material: n[1],
         temperature: n[2],
         pressure: n[3],
@@ -92,28 +68,53 @@ fn blind_flange(n: [u32; 64], count: usize) {
         count: n[12],
         sa: n[13],
         sb: n[14],
-    };
-    let plates = &n[15..count];
-    answered(rules::blind_flange(s, plates));
-    text(b" :");
-    blind_flange_places(s, plates);
+    }
 }
 
-fn blind_flange_places(s: BlindFlangeSheet, plates: &[u32]) {
+fn figure(kind: u32, e: EndplateSheet, b: BlindFlangeSheet, plates: &[u32], place: u32) -> u64 {
+    if kind == 1 {
+        rules::endplate_figure(e, plates, place)
+    } else {
+        rules::blind_flange_figure(b, plates, place)
+    }
+}
+
+fn figures(kind: u32, e: EndplateSheet, b: BlindFlangeSheet, plates: &[u32], places: u32) {
+    text(b" :");
     let mut place: u32 = 0;
-    while place < 15 {
-        number(rules::blind_flange_figure(s, plates, place));
+    while place < places {
+        number(figure(kind, e, b, plates, place));
         place += 1;
     }
+}
+
+// The plates stand after the first numbers of the line. The places go on to two past the report's last.
+fn sized(n: [u32; 64], first: usize, count: usize, places: u32) {
+    if count < first {
+        return;
+    }
+    if 64 < count {
+        return;
+    }
+    let kind = n[0];
+    let e = endplate_sheet(n);
+    let b = blind_flange_sheet(n);
+    let plates = &n[first..count];
+    if kind == 1 {
+        answered(rules::endplate(e, plates));
+    } else {
+        answered(rules::blind_flange(b, plates));
+    }
+    figures(kind, e, b, plates, places);
 }
 
 fn worked(l: Line) {
     let numbers = l.numbers;
     let count = l.count;
     if numbers[0] == 1 {
-        endplate(numbers, count);
+        sized(numbers, 8, count, 8);
     } else {
-        blind_flange(numbers, count);
+        sized(numbers, 15, count, 15);
     }
     text(b"\n");
 }

@@ -11,7 +11,7 @@ use Rattle.rules.specs.Causes.{any, firstCause, endplateCauses}
 use Rattle.rules.specs.Causes.{blindFlangeLimits, boltsOverloaded, blindFlangeCauses}
 use Rattle.rules.specs.Figures.{endplateFigures, blindFlangeFigures}
 use Rattle.rules.specs.Plates.{smallestServing}
-use Rattle.rules.specs.Answer.{refusedOr, plated, endplateAnswer, blindFlangeAnswer}
+use Rattle.rules.specs.Answer.{refusedOr, withPlate, endplateAnswer, blindFlangeAnswer}
 use Rattle.rules.specs.Exact.{EndplateExact, BlindFlangeExact}
 use Rattle.rules.specs.declared.EndplateSheet.{EndplateSheet}
 use Rattle.rules.specs.declared.EndplateFigures.{EndplateFigures}
@@ -22,7 +22,7 @@ use Rattle.rules.specs.declared.plates.Choice.the-variants.{Plate, NoPla
 use Rattle.rules.specs.declared.Answer.{Answer}
 use Rattle.rules.specs.declared.Answer.the-variants.{Endplate, BlindFlange, Refused}
 use Rattle.rules.proofs.Order.{in-turn}
-use Rattle.rules.proofs.Exactness.{endplate-least, need-near, edge-near}
+use Rattle.rules.proofs.Exactness.{endplate-least, thickness-near, edge-near}
 
 refused : (cause : ℕ) (rest : Answer) → cause ≢ 0 → Refused cause 0 ≡ refusedOr cause rest
 refused cause rest h = simp (ne-eqb cause 0 h)
@@ -46,7 +46,7 @@ by-choice :
     (sized : ℕ → Answer) (total : ℕ) →
     ((plate : ℕ) → P (sized plate)) →
     (choice : Choice) →
-    P (plated sized total choice)
+    P (withPlate sized total choice)
 by-choice P r sized total h (Plate plate) = h plate
 by-choice P r sized total h NoPlate = r 14 total
 
@@ -67,7 +67,7 @@ module _ (s : EndplateSheet) (plates : List ℕ) where
       0 ≡ firstCause (endplateCauses s) →
       f ≡ endplateFigures s →
       choice ≡ smallestServing (f .total) plates →
-      plated (Endplate f) (f .total) choice ≡ endplateAnswer s plates
+      withPlate (Endplate f) (f .total) choice ≡ endplateAnswer s plates
   unfolding endplateAnswer
   endplate-sized e q p = rw (p, q, ← e)
 
@@ -118,7 +118,7 @@ module _ (s : BlindFlangeSheet) (plates : List ℕ) where
       any (boltsOverloaded s) ≡ false →
       f ≡ blindFlangeFigures s →
       choice ≡ smallestServing (f .total) plates →
-      plated (BlindFlange f) (f .total) choice ≡ blindFlangeAnswer s plates
+      withPlate (BlindFlange f) (f .total) choice ≡ blindFlangeAnswer s plates
   unfolding blindFlangeAnswer
   flange-sized e h q p = rw (p, q, ← accepted (sym e) h)
 
@@ -140,7 +140,7 @@ module _ (s : BlindFlangeSheet) (plates : List ℕ) where
       let f = blindFlangeFigures s in
       by-cause (BlindFlangeExact s) (λ cause figure. tt) _ _
       (λ e. by-choice (BlindFlangeExact s) (λ cause figure. tt) (BlindFlange f) (f .total)
-      (λ plate. (need-near s (within e), edge-near s (within e)))
+      (λ plate. (thickness-near s (within e), edge-near s (within e)))
       (smallestServing (f .total) plates))
 
   -- the two clauses of the contract

@@ -12,7 +12,7 @@ use Rattle.tables.specs.Laws.{stress-most}
 use Rattle.root.specs.Least.{least-most}
 use Rattle.root.specs.Laws.{ceilDiv-le, leastRootOver-least}
 use Rattle.rules.specs.Endplate.{formA, endplateStress, endplateThickness}
-use Rattle.rules.specs.BlindFlange.{moment, needSide, flangeThickness, edgeUnder}
+use Rattle.rules.specs.BlindFlange.{moment, flangeLoading, flangeThickness, edgeUnder}
 use Rattle.rules.specs.Gasket.{narrow, wideWidth, effectiveWidth, reactionDiameter}
 use Rattle.rules.specs.Loads.{exactOperatingLoad, exactSeatingLoad, operatingLoad, seatingLoad, flangeLoad}
 use Rattle.rules.proofs.Products.{ring-products}
@@ -92,7 +92,7 @@ endplateThickness-most form {F} {P} {d} hF hP hd =
     (omega (arith, mul-le-mul hP (mul-le-mul hd hd), endplate-factor form F hF))
 
 module _ (S G C : ℕ) (hS : 1 ≤ S) (hG : 1 ≤ G) where
-  pub flangeThickness-most : (P Wm1 : ℕ) → needSide G P C Wm1 ≤ 2 ^ 64 → flangeThickness S G P C Wm1 ≤ 2 ^ 32
+  pub flangeThickness-most : (P Wm1 : ℕ) → flangeLoading G P C Wm1 ≤ 2 ^ 64 → flangeThickness S G P C Wm1 ≤ 2 ^ 32
   flangeThickness-most P Wm1 h =
       least-most (2 ^ 32) (flangeThickness-least S G C hS hG P Wm1) (omega (arith, flange-factor S G hS hG))
 

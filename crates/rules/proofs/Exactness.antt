@@ -14,8 +14,9 @@ use Rattle.rules.specs.Bolts.{boltArea}
 use Rattle.rules.specs.BlindFlange.{edgeUnder}
 use Rattle.rules.specs.Figures.{ambient, endplateFigures, blindFlangeFigures}
 use Rattle.rules.specs.Causes.{firstCause, endplateCauses, blindFlangeLimits}
-use Rattle.rules.specs.Exact.{EndplateHolds, ColdEdgeHolds, HotEdgeHolds, Near, NeedExact, EdgeExact}
-use Rattle.rules.specs.Exact.{sheetV1, sheetV2, sheetV}
+use Rattle.rules.specs.Exact.{EndplateHolds, AmbientEdgeHolds, OperatingEdgeHolds, Near}
+use Rattle.rules.specs.Exact.{ThicknessExact, EdgeExact}
+use Rattle.rules.specs.Exact.{exactOperatingLoadOf, exactSeatingLoadOf, exactFlangeLoadOf}
 use Rattle.rules.specs.declared.EndplateSheet.{EndplateSheet}
 use Rattle.rules.specs.declared.BlindFlangeSheet.{BlindFlangeSheet}
 use Rattle.rules.proofs.Accepted.{BlindFlangeAccepted, endplate-accepted, blind-flange-accepted}
@@ -63,12 +64,12 @@ module _ (s : BlindFlangeSheet) (e : firstCause (blindFlangeLimits s) ≡ 0) whe
   diameter = ring s a refl refl
 
   -- Wm1 is at most 1 N too much
-  slack-hot : 954500 * 10 ^ 10 * lever ≤ 10 ^ 10 * (100 * S * G) * 797
-  slack-hot = omega (arith, mul-le-mul-right G (stress .least), a .circle-most)
+  slack-operating : 954500 * 10 ^ 10 * lever ≤ 10 ^ 10 * (100 * S * G) * 797
+  slack-operating = omega (arith, mul-le-mul-right G (stress .least), a .circle-most)
 
   -- W is at most 3 N too much
-  slack-cold : 954500 * (6 * 10 ^ 11 * s .sb) * lever ≤ 2 * 10 ^ 11 * s .sb * (100 * S0 * G) * 797
-  slack-cold =
+  slack-ambient : 954500 * (6 * 10 ^ 11 * s .sb) * lever ≤ 2 * 10 ^ 11 * s .sb * (100 * S0 * G) * 797
+  slack-ambient =
       omega (
         arith,
         mul-le-mul-left (s .sb) (mul-le-mul-right G (stress .ambient-least)),
@@ -76,45 +77,45 @@ module _ (s : BlindFlangeSheet) (e : firstCause (blindFlangeLimits s) ≡ 0) whe
       )
 
   abbrev V1 : ℕ
-  V1 = sheetV1 s
+  V1 = exactOperatingLoadOf s
 
   abbrev Wm1 : ℕ
   Wm1 = operatingLoad V1
 
-  pub need-near : NeedExact s (blindFlangeFigures s .thickness)
+  pub thickness-near : ThicknessExact s (blindFlangeFigures s .thickness)
   unfolding blindFlangeFigures
-  need-near =
+  thickness-near =
       near-map (λ t. omega arith)
       (loaded (10 ^ 10) (100 * S * G) (3 * (G * G * G) * s .pressure) Wm1 V1 (10 ^ 10) lever _ _
       (omega arith) (operating-low V1) (operating-high V1) refl
       (flangeThickness-least S G (s .circle) (omega (arith, stress .least)) (diameter .least) (s .pressure) Wm1)
-      slack-hot)
+      slack-operating)
 
-  edge-hot : Near (HotEdgeHolds S G (s .circle) V1) (edgeUnder S G (s .circle) Wm1)
-  edge-hot =
+  edge-operating : Near (OperatingEdgeHolds S G (s .circle) V1) (edgeUnder S G (s .circle) Wm1)
+  edge-operating =
       near-map (λ t. omega arith)
       (loaded (10 ^ 10) (100 * S * G) 0 Wm1 V1 (10 ^ 10) lever _ _
       (omega arith) (operating-low V1) (operating-high V1) (omega arith)
       (edgeUnder-least S G (s .circle) (omega (arith, stress .least)) (diameter .least) Wm1)
-      slack-hot)
+      slack-operating)
 
   abbrev A : ℕ
   A = boltArea (s .root) (s .count)
 
   abbrev W : ℕ
-  W = flangeLoad Wm1 (seatingLoad (sheetV2 s)) A (s .sa) (s .sb)
+  W = flangeLoad Wm1 (seatingLoad (exactSeatingLoadOf s)) A (s .sa) (s .sb)
 
-  edge-cold : Near (ColdEdgeHolds (s .sb) S0 G (s .circle) (sheetV s)) (edgeUnder S0 G (s .circle) W)
-  edge-cold =
+  edge-ambient : Near (AmbientEdgeHolds (s .sb) S0 G (s .circle) (exactFlangeLoadOf s)) (edgeUnder S0 G (s .circle) W)
+  edge-ambient =
       near-map (λ t. omega arith)
-      (loaded (2 * 10 ^ 11 * s .sb) (100 * S0 * G) 0 W (sheetV s) (6 * 10 ^ 11 * s .sb) lever _ _
+      (loaded (2 * 10 ^ 11 * s .sb) (100 * S0 * G) 0 W (exactFlangeLoadOf s) (6 * 10 ^ 11 * s .sb) lever _ _
       (omega (arith, a .sb-least))
-      (flange-low V1 (sheetV2 s) A (s .sa) (s .sb) (a .sb-least) (a .ratio))
-      (flange-high V1 (sheetV2 s) A (s .sa) (s .sb) (a .sb-least) (a .ratio))
+      (flange-low V1 (exactSeatingLoadOf s) A (s .sa) (s .sb) (a .sb-least) (a .ratio))
+      (flange-high V1 (exactSeatingLoadOf s) A (s .sa) (s .sb) (a .sb-least) (a .ratio))
       (omega arith)
       (edgeUnder-least S0 G (s .circle) (omega (arith, stress .ambient-least)) (diameter .least) W)
-      slack-cold)
+      slack-ambient)
 
   pub edge-near : EdgeExact s (blindFlangeFigures s .«edge_thickness»)
   unfolding blindFlangeFigures
-  edge-near = near-both (rises _ _) (rises _ _) edge-cold edge-hot
+  edge-near = near-both (rises _ _) (rises _ _) edge-ambient edge-operating

@@ -67,8 +67,8 @@ module _ (s : BlindFlangeSheet) (a : BlindFlangeAccepted s) where
 
     pub edge-most : edgeThickness S S0 G (s .circle) Wm1 W ≤ 2 ^ 32
     edge-most =
-        let cold = edge-products (t .ambient-most) (r .most) (r .near) h in
-        let hot = edge-products (t .most) (r .most) (r .near) h1 in
+        let ambient-edge = edge-products (t .ambient-most) (r .most) (r .near) h in
+        let operating-edge = edge-products (t .most) (r .most) (r .near) h1 in
         omega (
           arith,
           edgeUnder-most S0 G (s .circle) (omega arith) (r .least) W (omega arith),

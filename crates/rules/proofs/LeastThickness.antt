@@ -8,7 +8,7 @@ use lib.Dec.{eqb}
 use Rattle.root.specs.Least.{Least, Reaches}
 use Rattle.root.specs.Laws.{leastRootOver-least}
 use Rattle.rules.specs.Endplate.{formD, formFactor, endplateThickness}
-use Rattle.rules.specs.BlindFlange.{moment, needSide, flangeThickness, edgeUnder}
+use Rattle.rules.specs.BlindFlange.{moment, flangeLoading, flangeThickness, edgeUnder}
 use Rattle.rules.specs.Exact.{EndplateHolds}
 
 -- the factors of the squares are not 0
@@ -31,9 +31,9 @@ endplateThickness-least form F P d h =
 
 module _ (S G C : ℕ) (hS : 1 ≤ S) (hG : 1 ≤ G) where
   pub flangeThickness-least :
-      (P Wm1 : ℕ) → Least (Reaches (needSide G P C Wm1) (100 * S * G)) (flangeThickness S G P C Wm1)
+      (P Wm1 : ℕ) → Least (Reaches (flangeLoading G P C Wm1) (100 * S * G)) (flangeThickness S G P C Wm1)
   unfolding flangeThickness
-  flangeThickness-least P Wm1 = leastRootOver-least (needSide G P C Wm1) (100 * S * G) (flange-factor S G hS hG)
+  flangeThickness-least P Wm1 = leastRootOver-least (flangeLoading G P C Wm1) (100 * S * G) (flange-factor S G hS hG)
 
   pub edgeUnder-least : (W : ℕ) → Least (Reaches (moment W C G) (100 * S * G)) (edgeUnder S G C W)
   unfolding edgeUnder

@@ -1,7 +1,7 @@
 -- The plate rule: the choice is the smallest listed plate that serves, and there is one wherever one serves.
 -- Assumes nothing.
 use mathlib.Core.Path.{_≡_, refl, subst}
-use mathlib.Core.Bool.{Bool, true, false, _&&_, cond, false≢true}
+use mathlib.Core.Bool.{Bool, true, false, _&&_, cond, and-eq-true-iff}
 use mathlib.Core.List.{List, [], _∷_, foldl, List·Memᴰ·head, List·Memᴰ·tail, List·Memᴰ·not-nil}
 use Prim.Native.Nat.{ℕ, _≤_}
 use native.Mathlib.Nat.{le-refl}
@@ -12,10 +12,6 @@ use Rattle.rules.specs.Plates.{serves, smaller, better, smallestServing,
 use Rattle.rules.specs.declared.plates.Choice.{Choice}
 use Rattle.rules.specs.declared.plates.Choice.the-variants.{Plate, NoPlate}
 
-and-true : (a b : Bool) → (a && b) ≡ true → (a ≡ true) × (b ≡ true)
-and-true true b e = (refl, e)
-and-true false b e = absurd (false≢true e)
-
 module _ (total : ℕ) where
   -- a choice, with one plate more, is not above what it was not above
   keeps : (c : Choice) (q x : ℕ) → NotAbove c x → NotAbove (better total c q) x
@@ -23,7 +19,7 @@ module _ (total : ℕ) where
   keeps (Plate p) q x h = by-test (serves total q && ltb q p) refl
     where
       by-test : (b : Bool) → (serves total q && ltb q p) ≡ b → NotAbove (cond b (Plate q) (Plate p)) x
-      by-test true e = omega (arith, ltb-true q p (and-true (serves total q) (ltb q p) e .1))
+      by-test true e = omega (arith, ltb-true q p (and-eq-true-iff (serves total q) (ltb q p) .0 e .1))
       by-test false e = h
 
   served : (q : ℕ) → total ≤ q → serves total q ≡ true
@@ -54,7 +50,7 @@ module _ (total : ℕ) where
   offers all c q o m = by-test (serves total q && smaller q c) refl
     where
       by-test : (b : Bool) → (serves total q && smaller q c) ≡ b → Offered total all (cond b (Plate q) c)
-      by-test true e = (m, leb-true total q (and-true (serves total q) (smaller q c) e .0))
+      by-test true e = (m, leb-true total q (and-eq-true-iff (serves total q) (smaller q c) .0 e .0))
       by-test false e = o
 
   run-offers :

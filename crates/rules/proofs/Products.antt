@@ -27,8 +27,8 @@ module _ {g b m p : ℕ} (hg : g ≤ 2 ^ 15) (hb : b ≤ 2 ^ 11) (hm : m ≤ 2 ^
 
 -- of the bolts
 pub record BoltProducts (operating seating area sa sb : ℕ) : Type 0 where
-  pub hot : operating * sa ≤ 2 ^ 35
-  pub cold : seating * sb ≤ 2 ^ 35
+  pub operating-sa : operating * sa ≤ 2 ^ 35
+  pub seating-sb : seating * sb ≤ 2 ^ 35
   pub strength-sa : area * sa ≤ 2 ^ 33
   pub strength-sb : area * sb ≤ 2 ^ 33
   pub both : area * sa * sb ≤ 2 ^ 42
@@ -38,8 +38,8 @@ pub bolt-products :
     (operating ≤ 2 ^ 26) × (seating ≤ 2 ^ 26) × (area ≤ 2 ^ 24) × (sa ≤ 2 ^ 9) × (sb ≤ 2 ^ 9) →
     BoltProducts operating seating area sa sb
 bolt-products h = record {
-  hot = mul-le-mul (h .0) (h .3);
-  cold = mul-le-mul (h .1) (h .4);
+  operating-sa = mul-le-mul (h .0) (h .3);
+  seating-sb = mul-le-mul (h .1) (h .4);
   strength-sa = mul-le-mul (h .2) (h .3);
   strength-sb = mul-le-mul (h .2) (h .4);
   both = mul-le-mul (mul-le-mul (h .2) (h .3)) (h .4);

@@ -31,8 +31,8 @@ module _ (V1 V2 A sa sb : ℕ) (some : 1 ≤ sb) (ratio : sa ≤ 4 * sb) where
       exactFlangeLoad V1 V2 A sa sb ≤ 2 * 10 ^ 11 * sb * flangeLoad (operatingLoad V1) (seatingLoad V2) A sa sb
   unfolding exactFlangeLoad flangeLoad
   flange-low =
-      let hot = mul-le-mul-right sa (operating-low V1) in
-      let cold = mul-le-mul-right sb (seating-low V2) in
+      let operating = mul-le-mul-right sa (operating-low V1) in
+      let seating = mul-le-mul-right sb (seating-low V2) in
       omega (arith, ceilDiv-least numerator (20 * sb) (omega arith) .holds)
 
   pub flange-high :
@@ -40,6 +40,6 @@ module _ (V1 V2 A sa sb : ℕ) (some : 1 ≤ sb) (ratio : sa ≤ 4 * sb) where
       ≤ exactFlangeLoad V1 V2 A sa sb + 6 * 10 ^ 11 * sb
   unfolding exactFlangeLoad flangeLoad
   flange-high =
-      let hot = mul-le-mul-right sa (operating-high V1) in
-      let cold = mul-le-mul-right sb (seating-high V2) in
+      let operating = mul-le-mul-right sa (operating-high V1) in
+      let seating = mul-le-mul-right sb (seating-high V2) in
       omega (arith, ceilDiv-excess numerator (20 * sb) (omega arith))

@@ -19,19 +19,21 @@ abbrev pub refusedOr : ℕ → Answer → Answer
 refusedOr cause rest = cond (eqb cause 0) rest (Refused cause 0)
 
 -- 14: no listed plate serves, with the total as its figure
-abbrev pub plated : (ℕ → Answer) → ℕ → Choice → Answer
-plated sized total (Plate plate) = sized plate
-plated sized total NoPlate = Refused 14 total
+abbrev pub withPlate : (ℕ → Answer) → ℕ → Choice → Answer
+withPlate sized total (Plate plate) = sized plate
+withPlate sized total NoPlate = Refused 14 total
 
 unfoldable pub endplateAnswer : EndplateSheet → List ℕ → Answer
 endplateAnswer s plates =
     let f = endplateFigures s in
-    refusedOr (firstCause (endplateCauses s)) (plated (Endplate f) (f .total) (smallestServing (f .total) plates))
+    refusedOr (firstCause (endplateCauses s))
+    (withPlate (Endplate f) (f .total) (smallestServing (f .total) plates))
 
 unfoldable pub blindFlangeAnswer : BlindFlangeSheet → List ℕ → Answer
 blindFlangeAnswer s plates =
     let f = blindFlangeFigures s in
-    refusedOr (firstCause (blindFlangeCauses s)) (plated (BlindFlange f) (f .total) (smallestServing (f .total) plates))
+    refusedOr (firstCause (blindFlangeCauses s))
+    (withPlate (BlindFlange f) (f .total) (smallestServing (f .total) plates))
 
 -- ---- an answer in document 01's numbers
 

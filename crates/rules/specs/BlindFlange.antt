@@ -8,12 +8,12 @@ abbrev pub moment : ℕ → ℕ → ℕ → ℕ
 moment W C G = 954500 * W * (C - G)
 
 -- what the need is worked from: 3·G³·P + 954500·Wm1·(C − G)
-abbrev pub needSide : ℕ → ℕ → ℕ → ℕ → ℕ
-needSide G P C Wm1 = 3 * (G * G * G) * P + moment Wm1 C G
+abbrev pub flangeLoading : ℕ → ℕ → ℕ → ℕ → ℕ
+flangeLoading G P C Wm1 = 3 * (G * G * G) * P + moment Wm1 C G
 
 -- e, the need: the least with 100·S·G·e² ≥ 3·G³·P + 954500·Wm1·(C − G)
 unfoldable pub flangeThickness : ℕ → ℕ → ℕ → ℕ → ℕ → ℕ
-flangeThickness S G P C Wm1 = leastRootOver (needSide G P C Wm1) (100 * S * G)
+flangeThickness S G P C Wm1 = leastRootOver (flangeLoading G P C Wm1) (100 * S * G)
 
 -- one of the two edges: the least with 100·S·G·edge² ≥ 954500·W·(C − G), for a stress and a load
 unfoldable pub edgeUnder : ℕ → ℕ → ℕ → ℕ → ℕ

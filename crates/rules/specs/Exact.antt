@@ -19,15 +19,15 @@ abbrev pub EndplateHolds : ℕ → ℕ → ℕ → ℕ → ℕ → Type 0
 EndplateHolds form F P d T = P * (d * d) ≤ formFactor form * F * (T * T)
 
 -- need of a blind flange: 10¹²·S·G·e² ≥ 3·10¹⁰·G³·P + 954500·V1·(C − G)
-abbrev pub NeedHolds : ℕ → ℕ → ℕ → ℕ → ℕ → ℕ → Type 0
-NeedHolds S G P C V1 e = 3 * 10 ^ 10 * (G * G * G) * P + 954500 * V1 * (C - G) ≤ 10 ^ 12 * S * G * (e * e)
+abbrev pub ThicknessHolds : ℕ → ℕ → ℕ → ℕ → ℕ → ℕ → Type 0
+ThicknessHolds S G P C V1 e = 3 * 10 ^ 10 * (G * G * G) * P + 954500 * V1 * (C - G) ≤ 10 ^ 12 * S * G * (e * e)
 
 -- edge: both 2·10¹³·sb·S0·G·edge² ≥ 954500·V·(C − G) and 10¹²·S·G·edge² ≥ 954500·V1·(C − G)
-abbrev pub ColdEdgeHolds : ℕ → ℕ → ℕ → ℕ → ℕ → ℕ → Type 0
-ColdEdgeHolds sb S0 G C «V» edge = 954500 * «V» * (C - G) ≤ 2 * 10 ^ 13 * sb * S0 * G * (edge * edge)
+abbrev pub AmbientEdgeHolds : ℕ → ℕ → ℕ → ℕ → ℕ → ℕ → Type 0
+AmbientEdgeHolds sb S0 G C «V» edge = 954500 * «V» * (C - G) ≤ 2 * 10 ^ 13 * sb * S0 * G * (edge * edge)
 
-abbrev pub HotEdgeHolds : ℕ → ℕ → ℕ → ℕ → ℕ → Type 0
-HotEdgeHolds S G C V1 edge = 954500 * V1 * (C - G) ≤ 10 ^ 12 * S * G * (edge * edge)
+abbrev pub OperatingEdgeHolds : ℕ → ℕ → ℕ → ℕ → ℕ → Type 0
+OperatingEdgeHolds S G C V1 edge = 954500 * V1 * (C - G) ≤ 10 ^ 12 * S * G * (edge * edge)
 
 -- ---- the demand
 
@@ -44,31 +44,38 @@ EndplateExact s (Endplate f plate) =
 EndplateExact s (BlindFlange f plate) = ⊥
 EndplateExact s (Refused cause figure) = Unit
 
--- the exact loads of a sheet
-abbrev pub sheetV1 : BlindFlangeSheet → ℕ
-sheetV1 s = exactOperatingLoad (reactionDiameter (s .od) (s .width)) (effectiveWidth (s .width)) (s .m) (s .pressure)
+-- the exact loads of a sheet: V1, V2 and V
+abbrev pub exactOperatingLoadOf : BlindFlangeSheet → ℕ
+exactOperatingLoadOf s =
+    exactOperatingLoad (reactionDiameter (s .od) (s .width)) (effectiveWidth (s .width)) (s .m) (s .pressure)
 
-abbrev pub sheetV2 : BlindFlangeSheet → ℕ
-sheetV2 s = exactSeatingLoad (reactionDiameter (s .od) (s .width)) (effectiveWidth (s .width)) (s .y)
+abbrev pub exactSeatingLoadOf : BlindFlangeSheet → ℕ
+exactSeatingLoadOf s = exactSeatingLoad (reactionDiameter (s .od) (s .width)) (effectiveWidth (s .width)) (s .y)
 
-abbrev pub sheetV : BlindFlangeSheet → ℕ
-sheetV s = exactFlangeLoad (sheetV1 s) (sheetV2 s) (boltArea (s .root) (s .count)) (s .sa) (s .sb)
+abbrev pub exactFlangeLoadOf : BlindFlangeSheet → ℕ
+exactFlangeLoadOf s =
+    let A = boltArea (s .root) (s .count) in
+    exactFlangeLoad (exactOperatingLoadOf s) (exactSeatingLoadOf s) A (s .sa) (s .sb)
 
--- the need of an accepted blind flange is near its inequality, and the edge near its two: it fails where it misses one
-abbrev pub NeedExact : BlindFlangeSheet → ℕ → Type 0
-NeedExact s need =
+-- the need of an accepted blind flange is near its inequality
+abbrev pub ThicknessExact : BlindFlangeSheet → ℕ → Type 0
+ThicknessExact s thickness =
     let S = designStress (s .material) (s .temperature) in
     let G = reactionDiameter (s .od) (s .width) in
-    Near (NeedHolds S G (s .pressure) (s .circle) (sheetV1 s)) need
+    Near (ThicknessHolds S G (s .pressure) (s .circle) (exactOperatingLoadOf s)) thickness
 
+-- its edge is near its two: it fails where it misses at least one
 abbrev pub EdgeExact : BlindFlangeSheet → ℕ → Type 0
 EdgeExact s edge =
     let S = designStress (s .material) (s .temperature) in
     let S0 = designStress (s .material) ambient in
     let G = reactionDiameter (s .od) (s .width) in
-    Near (λ t. ColdEdgeHolds (s .sb) S0 G (s .circle) (sheetV s) t × HotEdgeHolds S G (s .circle) (sheetV1 s) t) edge
+    let C = s .circle in
+    Near
+    (λ t. AmbientEdgeHolds (s .sb) S0 G C (exactFlangeLoadOf s) t × OperatingEdgeHolds S G C (exactOperatingLoadOf s) t)
+    edge
 
 abbrev pub BlindFlangeExact : BlindFlangeSheet → Answer → Type 0
 BlindFlangeExact s (Endplate f plate) = ⊥
-BlindFlangeExact s (BlindFlange f plate) = NeedExact s (f .thickness) × EdgeExact s (f .«edge_thickness»)
+BlindFlangeExact s (BlindFlange f plate) = ThicknessExact s (f .thickness) × EdgeExact s (f .«edge_thickness»)
 BlindFlangeExact s (Refused cause figure) = Unit

@@ -65,7 +65,7 @@ pub(crate) fn edge_thickness(
     requires { ⌜ (g ≤ 2 ^ 15) × (g ≤ circle) × (circle ≤ g + 2 ^ 14) ⌝ }
     ensures { λ r. ⌜ r ≡ edgeThickness stress ambient g circle operating flange ⌝ }
 {
-    let cold = edge_under(ambient, g, circle, flange);
-    let hot = edge_under(stress, g, circle, operating);
-    greater(cold, hot)
+    let ambient_edge = edge_under(ambient, g, circle, flange);
+    let operating_edge = edge_under(stress, g, circle, operating);
+    greater(ambient_edge, operating_edge)
 }

@@ -4,7 +4,7 @@ use mathlib.Core.Bool.{not}
 use native.Mathlib.Omega.{arith}
 use borrow.Author.Needs.{needs}
 use Rattle.rules.specs.Causes.{any, firstCause, blindFlangeLimits, boltsOverloaded}
-use Rattle.rules.specs.Answer.{plated, blindFlangeAnswer}
+use Rattle.rules.specs.Answer.{withPlate, blindFlangeAnswer}
 use Rattle.rules.specs.declared.Answer.the-variants.{BlindFlange}
 use Rattle.rules.proofs.Accepted.{blind-flange-accepted}
 use Rattle.rules.proofs.FlangeBounds.{figures-operating, figures-seating}
@@ -52,7 +52,7 @@ sized :
     (c : tie.After-smallest-serving) →
     let f = c .before .before .before .before .blind-flange-figures .result in
     let a = c .before .before .before .before .before .before .before .before .args in
-    plated (BlindFlange f) (f .total) (c .smallest-serving .result) ≡ blindFlangeAnswer (a .s) (a .plates .now)
+    withPlate (BlindFlange f) (f .total) (c .smallest-serving .result) ≡ blindFlangeAnswer (a .s) (a .plates .now)
 sized c =
     let b = c .before .before in
     let f = b .before .before in
@@ -64,13 +64,13 @@ returns-3 : tie.Need-returns-3
 returns-3 c =
     let b = c .before .before .before in
     let f = b .before .before .before .before .blind-flange-figures .result in
-    flange-promised _ _ (ap (plated (BlindFlange f) (f .total)) (sym (c .before .choice .given .1)) ∙ sized b)
+    flange-promised _ _ (ap (withPlate (BlindFlange f) (f .total)) (sym (c .before .choice .given .1)) ∙ sized b)
 
 returns-4 : tie.Need-returns-4
 returns-4 c =
     let b = c .before .before in
     let f = b .before .before .before .before .blind-flange-figures .result in
-    flange-promised _ _ (ap (plated (BlindFlange f) (f .total)) (sym (c .enum-told .given .1)) ∙ sized b)
+    flange-promised _ _ (ap (withPlate (BlindFlange f) (f .total)) (sym (c .enum-told .given .1)) ∙ sized b)
 
 pub blind-flange-spec : {M : Type 1} → statement M
 blind-flange-spec =

@@ -1,7 +1,7 @@
 -- `endplate` meets its contract. Assumes nothing.
 use mathlib.Core.Path.{_≡_, sym, ap, _∙_}
 use borrow.Author.Needs.{needs}
-use Rattle.rules.specs.Answer.{plated, endplateAnswer}
+use Rattle.rules.specs.Answer.{withPlate, endplateAnswer}
 use Rattle.rules.specs.declared.Answer.the-variants.{Endplate}
 use Rattle.rules.proofs.Answers.{endplate-refused, endplate-sized, endplate-promised}
 use Rattle.rules.proofs.endplate.Statement.{statement}
@@ -18,7 +18,7 @@ sized :
     (c : tie.After-smallest-serving) →
     let f = c .before .endplate-figures .result in
     let a = c .before .before .before .before .before .args in
-    plated (Endplate f) (f .total) (c .smallest-serving .result) ≡ endplateAnswer (a .s) (a .plates .now)
+    withPlate (Endplate f) (f .total) (c .smallest-serving .result) ≡ endplateAnswer (a .s) (a .plates .now)
 sized c =
     let b = c .before .before in
     let a = b .before .before .before .args in
@@ -29,13 +29,13 @@ returns-2 : tie.Need-returns-2
 returns-2 c =
     let b = c .before .before .before in
     let f = b .before .endplate-figures .result in
-    endplate-promised _ _ (ap (plated (Endplate f) (f .total)) (sym (c .before .choice .given .1)) ∙ sized b)
+    endplate-promised _ _ (ap (withPlate (Endplate f) (f .total)) (sym (c .before .choice .given .1)) ∙ sized b)
 
 returns-3 : tie.Need-returns-3
 returns-3 c =
     let b = c .before .before in
     let f = b .before .endplate-figures .result in
-    endplate-promised _ _ (ap (plated (Endplate f) (f .total)) (sym (c .enum-told .given .1)) ∙ sized b)
+    endplate-promised _ _ (ap (withPlate (Endplate f) (f .total)) (sym (c .enum-told .given .1)) ∙ sized b)
 
 pub endplate-spec : {M : Type 1} → statement M
 endplate-spec =
