@@ -6,6 +6,9 @@ use Rattle.rules.proofs.Rules.{decide}
 use Rattle.rules.proofs.causes.bolts_refused.Statement.{statement}
 use Rattle.rules.proofs.causes.bolts_refused.Tie as tie
 
+returns-3 : tie.Need-returns-3
+returns-3 c = search decide
+
 pub bolts-refused-spec : {M : Type 1} → statement M
 bolts-refused-spec =
     tie.close
@@ -15,4 +18,4 @@ bolts-refused-spec =
     (λ c. omega (arith, mul-le-mul (c .if2 .left) (c .if2 .left)))
     (λ c. omega (arith, mul-le-mul (c .if2 .left) (c .if2 .left)))
     (λ c. search needs)
-    (λ c. search decide))
+    returns-3)

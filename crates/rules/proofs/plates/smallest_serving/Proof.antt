@@ -13,27 +13,27 @@ use Rattle.rules.proofs.plates.smallest_serving.Tie as tie
 
 abbrev Inv-loop : tie.InvT-loop
 Inv-loop total plates choice₀ i₀ choice i =
-    (i ≤ length plates) × (smallestServing total plates ≡ foldl (better total) choice (drop i plates))
+    (smallestServing total plates ≡ foldl (better total) choice (drop i plates)) × (i ≤ length plates)
 
 abbrev μ-loop : tie.MeasureT-loop
 μ-loop total plates choice₀ i₀ choice i = length plates - i
 
 loop-holds : tie.Need-loop-holds Inv-loop μ-loop
 unfolding smallestServing
-loop-holds c = (omega arith, refl)
+loop-holds c = (refl, omega arith)
 
 loop-again : tie.Need-loop-again Inv-loop μ-loop
 loop-again c =
     let l = c .before .before .before .loop in
     let a = c .before .before .before .before .before .args in
     let one = fold-one (better (a .total)) (l .choice) (a .plates .now) (l .i) (omega arith) in
-    (omega arith, rw (c .better-of .ensures) (l .inv .1 ∙ one))
+    (rw (c .better-of .ensures) (l .inv .0 ∙ one), omega arith)
 
 returns : tie.Need-returns Inv-loop μ-loop
 returns c =
     let l = c .before .loop in
     let a = c .before .before .before .args in
-    sym (l .inv .1 ∙ fold-end (better (a .total)) (l .choice) (a .plates .now) (l .i) (omega arith))
+    sym (l .inv .0 ∙ fold-end (better (a .total)) (l .choice) (a .plates .now) (l .i) (omega arith))
 
 pub smallest-serving-spec : {M : Type 1} → statement M
 smallest-serving-spec =

@@ -1,12 +1,10 @@
 -- `thickness::edge_thickness` meets its contract. Assumes nothing.
-use mathlib.Core.Path.{ap₂, _∙_}
-use Prim.Native.Nat.{max}
 use borrow.Author.Needs.{needs}
 use Rattle.rules.proofs.thickness.edge_thickness.Statement.{statement}
 use Rattle.rules.proofs.thickness.edge_thickness.Tie as tie
 
 returns : tie.Need-returns
-returns c = c .greater .ensures ∙ ap₂ max (c .before .before .edge-under .ensures) (c .before .edge-under2 .ensures)
+returns c = rw (← c .before .before .edge-under .ensures, ← c .before .edge-under2 .ensures) (c .greater .ensures)
 
 pub edge-thickness-spec : {M : Type 1} → statement M
 edge-thickness-spec =
