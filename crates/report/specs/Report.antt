@@ -1,0 +1,46 @@
+-- The report of an answer: its figures in report order, or the two lines of a refusal.
+use Prim.Native.Nat.{ℕ}
+use Prim.Native.String.{String}
+use mathlib.Core.List.{List, [], _∷_, _++_}
+use Rattle.rules.specs.Answer.{reportOf}
+use Rattle.rules.specs.declared.Answer.{Answer}
+use Rattle.rules.specs.declared.Answer.the-variants.{Endplate, BlindFlange, Refused}
+use Rattle.text.specs.Ascii.{ascii}
+use Rattle.text.specs.Decimal.{numberLine}
+
+-- the keys of a report's lines
+abbrev pub keysOf : Answer → List String
+keysOf (Endplate f plate) = "stress" ∷ "need" ∷ "total" ∷ "plate" ∷ []
+keysOf (BlindFlange f plate) =
+    "stress"
+    ∷ "cold"
+    ∷ "g"
+    ∷ "b"
+    ∷ "wm1"
+    ∷ "wm2"
+    ∷ "w"
+    ∷ "need"
+    ∷ "edge"
+    ∷ "total"
+    ∷ "plate"
+    ∷ []
+keysOf (Refused cause figure) = "refused" ∷ "place" ∷ []
+
+-- and their numbers
+abbrev pub numbersOf : Answer → List ℕ
+numbersOf (Endplate f plate) = reportOf (Endplate f plate)
+numbersOf (BlindFlange f plate) = reportOf (BlindFlange f plate)
+numbersOf (Refused cause figure) = cause ∷ figure ∷ []
+
+-- a line for each key and its number
+abbrev pub linesOf : List String → List ℕ → List ℕ
+linesOf [] ns = []
+linesOf (key ∷ keys) [] = []
+linesOf (key ∷ keys) (n ∷ ns) = numberLine (ascii key) n ++ linesOf keys ns
+
+unfoldable pub reportText : Answer → List ℕ
+reportText answer = linesOf (keysOf answer) (numbersOf answer)
+
+-- no report is longer: eleven lines, each of a key of at most 7 bytes, =, at most 20 digits and LF
+abbrev pub longest : ℕ
+longest = 319

@@ -1,0 +1,5 @@
+pub mod Parts
+pub mod Digits
+pub mod Listed
+pub mod Spelled
+pub mod RoundTrip

@@ -1,0 +1,87 @@
+-- `plates::read_plates` meets its contract. Assumes nothing.
+use Prim.Native.Nat.{_+_, _-_, _≤_}
+use mathlib.Core.Path.{_≡_, refl, sym, ap, _∙_}
+use native.Mathlib.Omega.{arith}
+use borrow.Author.Needs.{needs}
+use borrow.Author.Tests.{not-true, not-false}
+use lib.ListN.{length, take, drop, set, replicate}
+use Rattle.text.specs.Plates.{most, platesOf, numbersOf, held}
+use Rattle.text.proofs.Listed.{prepend, plates-none, plates-some, numbers-over, numbers-malformed}
+use Rattle.text.proofs.Listed.{listed-more, listed-last, zeros-after, held-some, held-none}
+use Rattle.text.proofs.plates.read_plates.Statement.{statement}
+use Rattle.text.proofs.plates.read_plates.Tie as tie
+
+-- what is read so far and the rest of the text give the whole list; past the numbers the array is 0
+abbrev Inv-loop : tie.InvT-loop
+Inv-loop v list₀ count₀ t₀ list count t =
+    (platesOf v ≡ prepend (take count list) (numbersOf (most - count) t))
+    × (drop count list ≡ replicate (most - count) 0)
+    × (length list ≡ most)
+    × (count ≤ most)
+
+abbrev μ-loop : tie.MeasureT-loop
+μ-loop v list₀ count₀ t₀ list count t = most - count
+
+returns-2 : tie.Need-returns-2 Inv-loop μ-loop
+returns-2 c =
+    let l = c .before .before .before .before .before .before .loop in
+    c .malformed .ensures
+    ∙ held-none _ (take (l .count) (l .list)) (l .inv .0) (numbers-malformed (l .t .now) (l .count) (search needs) (cc))
+
+returns-3 : tie.Need-returns-3 Inv-loop μ-loop
+returns-3 c =
+    let l = c .before .before .before .before .before .before .before .before .loop in
+    let x = c .before .before .before .number .given .0 .0 in
+    let alone = sym (c .before .has .ensures) ∙ not-true (c .before .has .result) (c .if2 .taken) in
+    held-some
+    (set (l .list) (l .count) x)
+    (l .count + 1)
+    (search needs)
+    (search needs)
+    (zeros-after most (l .list) (l .count) x (search needs) (l .inv .2) (l .inv .1))
+    ∙ ap held (sym (l .inv .0 ∙ listed-last (l .t .now) (l .count) (search needs) x (cc) (l .list) (search needs) alone))
+
+loop-again : tie.Need-loop-again Inv-loop μ-loop
+loop-again c =
+    let l = c .before .before .before .before .before .before .before .before .before .loop in
+    let x = c .before .before .before .before .number .given .0 .0 in
+    let has = c .before .before .has in
+    let more = sym (has .ensures) ∙ not-false (has .result) (c .before .if2 .left) in (
+      l .inv .0
+          ∙ listed-more (l .t .now) (l .count) (search needs) x (cc) (l .list) (search needs) more
+          ∙ rw (c .part-after .ensures),
+      zeros-after most (l .list) (l .count) x (search needs) (l .inv .2) (l .inv .1),
+      search needs,
+      search needs,
+    )
+
+returns-4 : tie.Need-returns-4 Inv-loop μ-loop
+returns-4 c =
+    let l = c .before .before .loop in
+    c .malformed2 .ensures
+    ∙ held-none _ (take (l .count) (l .list)) (l .inv .0) (numbers-over (l .t .now) (most - l .count) (omega arith))
+
+pub read-plates-spec : {M : Type 1} → statement M
+read-plates-spec =
+    tie.close
+    (tie.spec
+    Inv-loop
+    μ-loop
+    (λ c. ap held (sym (plates-none _ (c .if1 .taken))))
+    (λ c. (plates-some _ (c .if1 .left), refl, refl, search needs))
+    (λ c κs. search needs)
+    (λ c κs. search needs)
+    (λ c. search needs)
+    (λ c. search needs)
+    (λ c κs. search needs)
+    returns-2
+    (λ c. search needs)
+    (λ c. search needs)
+    (λ c. search needs)
+    (λ c κs. search needs)
+    returns-3
+    (λ c κs. search needs)
+    (λ c. search needs)
+    loop-again
+    (λ c κs. search needs)
+    returns-4)

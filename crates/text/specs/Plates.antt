@@ -1,0 +1,37 @@
+-- The plate list: 0 to 32 numbers with commas between.
+use Prim.Native.Nat.{ℕ, zero, suc, _-_}
+use mathlib.Core.Bool.{true, false, cond}
+use mathlib.Core.List.{List, [], _∷_, _++_}
+use mathlib.Core.Option.{Option, none, some}
+use lib.Dec.{eqb}
+use lib.ListN.{length, replicate}
+use Rattle.text.specs.Ascii.{comma}
+use Rattle.text.specs.Line.{holds, before, after}
+use Rattle.text.specs.Number.{numberOf}
+use Rattle.text.specs.declared.number.Number.{Number}
+use Rattle.text.specs.declared.number.Number.the-variants.{Value, Malformed}
+use Rattle.text.specs.declared.plates.Plates.{Plates}
+
+abbrev pub most : ℕ
+most = 32
+
+-- a number before a list; none where either is malformed
+abbrev pub ahead : Number → Option (List ℕ) → Option (List ℕ)
+ahead (Value x) (some xs) = some (x ∷ xs)
+ahead (Value x) none = none
+ahead Malformed xs = none
+
+-- 1 to k numbers with commas between
+unfoldable pub numbersOf : ℕ → List ℕ → Option (List ℕ)
+numbersOf zero t = none
+numbersOf (suc k) t =
+    let more = numbersOf k (after comma t) in
+    ahead (numberOf (before comma t)) (cond (holds comma t) more (some []))
+
+unfoldable pub platesOf : List ℕ → Option (List ℕ)
+platesOf v = let some-of-them = numbersOf most v in cond (eqb (length v) 0) (some []) some-of-them
+
+-- how a list is handed back: in the first places of an array, zeros after it
+abbrev pub held : Option (List ℕ) → Plates
+held (some xs) = record { ok = true; count = length xs; list = xs ++ replicate (most - length xs) 0 }
+held none = record { ok = false; count = 0; list = replicate most 0 }

@@ -1,0 +1,13 @@
+// Reading lines of key, `=`, value, LF: a value as a part of the line, a number, a list of plates.
+mod line;
+mod number;
+mod plates;
+
+pub use line::is_line;
+pub use line::is_text;
+pub use line::next_line;
+pub use line::value;
+pub use number::Number;
+pub use number::read_number;
+pub use plates::Plates;
+pub use plates::read_plates;
