@@ -44,13 +44,13 @@ fn put_line(out: &mut [u8], at: usize, key: &[u8], n: u64) -> usize
     put(out, at, b"\n")
 }
 
-fn endplate_lines(f: EndplateFigures, plate: u32, out: &mut [u8]) -> usize
+fn endplate_lines(figures: EndplateFigures, plate: u32, out: &mut [u8]) -> usize
     requires { ⌜ longest ≤ length (now out) ⌝ }
-    ensures { λ r. ⌜ Wrote (now (out .entry)) 0 (reportText (Endplate f plate)) r (now (out .exit)) × (r ≤ longest) ⌝ }
+    ensures { λ r. ⌜ Wrote (now (out .entry)) 0 (reportText (Endplate figures plate)) r (now (out .exit)) × (r ≤ longest) ⌝ }
 {
-    let at = put_line(out, 0, b"stress", f.design_stress);
-    let at = put_line(out, at, b"need", f.thickness);
-    let at = put_line(out, at, b"total", f.total);
+    let at = put_line(out, 0, b"stress", figures.design_stress);
+    let at = put_line(out, at, b"need", figures.thickness);
+    let at = put_line(out, at, b"total", figures.total);
     put_line(out, at, b"plate", plate as u64)
 }
 

@@ -37,10 +37,13 @@ pub record Near (P : ℕ → Type 0) (r : ℕ) : Type 0 where
   pub fails : 400 ≤ r → (t : ℕ) → t + 2 ≤ r → ¬ P t
 
 -- the need of an accepted endplate is the least whole number that satisfies its inequality
-abbrev pub EndplateExact : EndplateSheet → Answer → Type 0
-EndplateExact s (Endplate f plate) =
+abbrev pub EndplateThicknessExact : EndplateSheet → ℕ → Type 0
+EndplateThicknessExact s thickness =
     let F = endplateStress (s .form) (s .material) (s .shell) (s .temperature) in
-    Least (EndplateHolds (s .form) F (s .pressure) (s .diameter)) (f .thickness)
+    Least (EndplateHolds (s .form) F (s .pressure) (s .diameter)) thickness
+
+abbrev pub EndplateExact : EndplateSheet → Answer → Type 0
+EndplateExact s (Endplate f plate) = EndplateThicknessExact s (f .thickness)
 EndplateExact s (BlindFlange f plate) = ⊥
 EndplateExact s (Refused cause figure) = Unit
 

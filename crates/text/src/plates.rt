@@ -17,7 +17,8 @@ pub struct Plates {
     pub list: [u32; 32],
 }
 
-fn malformed() -> Plates
+// What stands for no list.
+pub fn no_plates() -> Plates
     ensures { λ r. ⌜ r ≡ held none ⌝ }
 {
     Plates {
@@ -44,7 +45,7 @@ pub fn read_plates(v: &[u8]) -> Plates
     while count < 32 {
         let number = read_number(part_before(t, COMMA));
         let Number::Value(x) = number else {
-            return malformed();
+            return no_plates();
         };
         list[count] = x;
         count += 1;
@@ -58,5 +59,5 @@ pub fn read_plates(v: &[u8]) -> Plates
         let rest = part_after(t, COMMA);
         t = rest;
     }
-    malformed()
+    no_plates()
 }

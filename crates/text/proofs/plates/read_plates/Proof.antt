@@ -25,7 +25,7 @@ abbrev μ-loop : tie.MeasureT-loop
 returns-2 : tie.Need-returns-2 Inv-loop μ-loop
 returns-2 c =
     let l = c .before .before .before .before .before .before .loop in
-    c .malformed .ensures
+    c .no-plates .ensures
     ∙ held-none _ (take (l .count) (l .list)) (l .inv .0) (numbers-malformed (l .t .now) (l .count) (search needs) (cc))
 
 returns-3 : tie.Need-returns-3 Inv-loop μ-loop
@@ -58,7 +58,7 @@ loop-again c =
 returns-4 : tie.Need-returns-4 Inv-loop μ-loop
 returns-4 c =
     let l = c .before .before .loop in
-    c .malformed2 .ensures
+    c .no-plates2 .ensures
     ∙ held-none _ (take (l .count) (l .list)) (l .inv .0) (numbers-over (l .t .now) (most - l .count) (omega arith))
 
 pub read-plates-spec : {M : Type 1} → statement M

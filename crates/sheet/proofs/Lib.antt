@@ -1,0 +1,4 @@
+pub mod Choices
+pub mod LineByLine
+pub mod Judged
+pub mod Accepted

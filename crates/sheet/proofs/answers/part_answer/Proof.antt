@@ -1,0 +1,79 @@
+-- `answers::part_answer` meets its contract. Assumes nothing.
+use Prim.Native.Nat.{_≤_}
+use mathlib.Core.Bool.{Bool, true, false}
+use mathlib.Core.Path.{_≡_, sym, ap, _∙_}
+use borrow.Author.Needs.{needs}
+use borrow.Author.Tests.{not-true, not-false}
+use lib.ListN.{length}
+use lib.Seq.{length-take-le}
+use Rattle.text.specs.Ascii.{lineFeed}
+use Rattle.text.specs.Line.{after}
+use Rattle.sheet.specs.Fields.{fieldsOf}
+use Rattle.sheet.specs.Lines.{Lines, linesOf, held}
+use Rattle.sheet.specs.Sheet.{read, partOf, answered}
+use Rattle.sheet.specs.declared.lines.SheetLines.{SheetLines}
+use Rattle.sheet.proofs.Judged.{refused-part, endplate-part, flange-part, count-fits}
+use Rattle.sheet.proofs.answers.part_answer.Statement.{statement}
+use Rattle.sheet.proofs.answers.part_answer.Tie as tie
+
+-- what the lines read as
+abbrev lines : tie.After-read-lines → Lines
+lines c =
+    let a = c .before .before .before .args in
+    linesOf 2 (fieldsOf (a .blind)) (after lineFeed (a .text .now))
+
+handed : (c : tie.After-read-lines) → c .read-lines .result ≡ held (lines c)
+handed c = rw (← c .before .next-line .ensures) (c .read-lines .ensures)
+
+-- the plates handed on stand in the array
+room : (c : tie.After-read-lines) → c .read-lines .result .count ≤ length (c .read-lines .result .plates)
+room c = rw (handed c) (count-fits (lines c))
+
+-- they are in order, or not
+in-order : (c : tie.After-read-lines) (b : Bool) → c .read-lines .result .ok ≡ b → held (lines c) .ok ≡ b
+in-order c b e = ap (λ (h : SheetLines). h .ok) (sym (handed c)) ∙ e
+
+returns : tie.Need-returns
+unfolding partOf
+returns c =
+    let l = c .before .before .before in
+    rw (handed l) (refused-part _ (lines l) (in-order l false (not-true _ (c .before .if1 .taken))))
+
+returns-2 : tie.Need-returns-2
+unfolding partOf
+returns-2 c =
+    let t = c .before .before .before .before .before .before in
+    let l = t .before .before in
+    let sheet = c .before .before .blind-flange-sheet .ensures in
+    c .blind-flange .ensures .0
+    ∙ rw (sheet, handed l) (flange-part (lines l) (in-order l true (not-false _ (t .if1 .left))))
+    ∙ ap (λ (blind : Bool). answered (read blind (lines l))) (sym (c .before .before .before .if2 .taken))
+
+returns-3 : tie.Need-returns-3
+unfolding partOf
+returns-3 c =
+    let t = c .before .before .before .before .before .before in
+    let l = t .before .before in
+    let sheet = c .before .before .endplate-sheet .ensures in
+    c .endplate .ensures .0
+    ∙ rw (sheet, handed l) (endplate-part (lines l) (in-order l true (not-false _ (t .if1 .left))))
+    ∙ ap (λ (blind : Bool). answered (read blind (lines l))) (sym (c .before .before .before .if2 .left))
+
+pub part-answer-spec : {M : Type 1} → statement M
+part-answer-spec =
+    tie.close
+    (tie.spec
+    (λ c κs. search needs)
+    (λ c κs. search needs)
+    (λ c. search needs)
+    returns
+    (λ c κs. search needs)
+    (λ c. room (c .before .before .before .before .before .before))
+    (λ c. sym (length-take-le _ _ (room (c .before .before .before .before .before .before .before))))
+    (λ c κs. search needs)
+    returns-2
+    (λ c κs. search needs)
+    (λ c. room (c .before .before .before .before .before .before))
+    (λ c. sym (length-take-le _ _ (room (c .before .before .before .before .before .before .before))))
+    (λ c κs. search needs)
+    returns-3)

@@ -1,0 +1,40 @@
+-- `fields::endplate_field` meets its contract. Assumes nothing.
+use mathlib.Core.Path.{_≡_}
+use native.Mathlib.Omega.{arith}
+use borrow.Author.Needs.{needs}
+use Rattle.sheet.proofs.Choices.{past-all}
+use Rattle.sheet.proofs.fields.endplate_field.Statement.{statement}
+use Rattle.sheet.proofs.fields.endplate_field.Tie as tie
+
+last : tie.Need-returns-7
+last c =
+    let m = c .before .before in
+    let s = m .before .before .args in
+    let i : s .i ≡ 6 = omega (arith, past-all 6 (s .i) (m .match .rest)) in
+    rw i (c .number-line6 .ensures)
+
+pub endplate-field-spec : {M : Type 1} → statement M
+endplate-field-spec =
+    tie.close
+    (tie.spec
+    (λ c. search needs)
+    (λ c κs. search needs)
+    (λ c. search needs)
+    (λ c κs. search needs)
+    (λ c. search needs)
+    (λ c κs. search needs)
+    (λ c. search needs)
+    (λ c κs. search needs)
+    (λ c. search needs)
+    (λ c κs. search needs)
+    (λ c. search needs)
+    (λ c κs. search needs)
+    (λ c. search needs)
+    (λ c κs. search needs)
+    (λ c. rw (c .before .before .match .keys1) (c .form-line .ensures))
+    (λ c. rw (c .before .before .match .keys2) (c .number-line .ensures))
+    (λ c. rw (c .before .before .match .keys3) (c .number-line2 .ensures))
+    (λ c. rw (c .before .before .match .keys4) (c .number-line3 .ensures))
+    (λ c. rw (c .before .before .match .keys5) (c .number-line4 .ensures))
+    (λ c. rw (c .before .before .match .keys6) (c .number-line5 .ensures))
+    last)

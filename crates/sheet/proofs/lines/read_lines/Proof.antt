@@ -1,0 +1,154 @@
+-- `lines::read_lines` meets its contract. Assumes nothing.
+use Prim.Native.Nat.{ℕ, _+_, _-_, _≤_}
+use mathlib.Core.Path.{_≡_, refl, sym, ap, _∙_}
+use native.Mathlib.Omega.{arith}
+use borrow.Author.Needs.{needs}
+use borrow.Author.Tests.{not-true, not-false}
+use lib.ListN.{length, take, drop, replicate}
+use Rattle.text.specs.Ascii.{lineFeed}
+use Rattle.text.specs.Line.{after}
+use Rattle.text.specs.declared.plates.Plates.{Plates}
+use Rattle.text.proofs.Listed.{zeros-after}
+use Rattle.sheet.specs.Fields.{fieldsOf}
+use Rattle.sheet.specs.Lines.{fault, platesLine, lastLine, linesOf, places, held}
+use Rattle.sheet.proofs.LineByLine.{prepend, prepend-nothing, fields-fit, line-fault, line-more}
+use Rattle.sheet.proofs.LineByLine.{lines-last, last-fault, last-more, last-given, held-fault}
+use Rattle.sheet.proofs.lines.read_lines.Statement.{statement}
+use Rattle.sheet.proofs.lines.read_lines.Tie as tie
+
+-- the numbers read so far and the rest of the text give the whole; past the numbers the array is 0
+abbrev Inv-loop : tie.InvT-loop
+Inv-loop text blind fields values₀ t₀ i₀ values t i =
+    (linesOf 2 (fieldsOf blind) text ≡ prepend (take i values) (linesOf (i + 2) (drop i (fieldsOf blind)) t))
+    × (drop i values ≡ replicate (places - i) 0)
+    × (length values ≡ places)
+    × (fields ≡ length (fieldsOf blind))
+    × (fields ≤ places)
+    × (i ≤ fields)
+
+abbrev μ-loop : tie.MeasureT-loop
+μ-loop text blind fields values₀ t₀ i₀ values t i = fields - i
+
+loop-holds : tie.Need-loop-holds Inv-loop μ-loop
+loop-holds c =
+    let count = c .field-count .ensures in
+    (prepend-nothing _, refl, refl, count, omega (arith, fields-fit (c .before .before .args .blind)), search needs)
+
+returns : tie.Need-returns Inv-loop μ-loop
+returns c =
+    let l = c .before .before .before .before .before .loop in
+    let fields = fieldsOf (c .before .before .before .before .before .before .before .before .args .blind) in
+    c .faulty .ensures
+    ∙ held-fault
+    (take (l .i) (l .values))
+    (l .i + 2)
+    (l .inv .0)
+    (line-fault fields (l .t .now) (l .i) (search needs) (cc))
+
+loop-again : tie.Need-loop-again Inv-loop μ-loop
+loop-again c =
+    let l = c .before .before .before .before .before .before .loop in
+    let x = c .before .before .number .given .0 .0 in
+    let fields = fieldsOf (c .before .before .before .before .before .before .before .before .before .args .blind) in (
+      l .inv .0
+          ∙ line-more fields (l .t .now) (l .i) (search needs) (l .values) x (search needs) (cc)
+          ∙ rw (c .next-line .ensures),
+      zeros-after places (l .values) (l .i) x (search needs) (l .inv .2) (l .inv .1),
+      search needs,
+      search needs,
+      search needs,
+      search needs,
+    )
+
+-- past the fields the last line is left
+last : (c : tie.After-plates-line Inv-loop μ-loop)
+    → let l = c .before .before in
+    linesOf (l .loop .i + 2) (drop (l .loop .i) (fieldsOf (l .before .before .before .args .blind))) (l .loop .t .now)
+    ≡ lastLine (l .before .field-count .result + 2) (platesLine (l .loop .t .now)) (after lineFeed (l .loop .t .now))
+last c =
+    let l = c .before .before in
+    let e : l .loop .i + 2 ≡ l .before .field-count .result + 2 = omega arith in
+    lines-last _ _ _ (l .loop .i) (omega arith)
+    ∙ ap (λ (line : ℕ). lastLine line (platesLine (l .loop .t .now)) (after lineFeed (l .loop .t .now))) e
+
+returns-2 : tie.Need-returns-2 Inv-loop μ-loop
+returns-2 c =
+    let p = c .before .before .before in
+    let l = p .before .before .loop in
+    let ok = p .plates-line .result .ok in
+    let none = ap (λ (h : Plates). h .ok) (sym (p .plates-line .ensures)) ∙ not-true ok (c .before .if1 .taken) in
+    c .faulty2 .ensures
+    ∙ held-fault
+    (take (l .i) (l .values))
+    (p .before .before .before .field-count .result + 2)
+    (l .inv .0)
+    (last p ∙ last-fault _ _ (platesLine (l .t .now)) none)
+
+returns-3 : tie.Need-returns-3 Inv-loop μ-loop
+returns-3 c =
+    let p = c .before .before .before .before .before in
+    let l = p .before .before .loop in
+    let ok = p .plates-line .result .ok in
+    let some = ap (λ (h : Plates). h .ok) (sym (p .plates-line .ensures)) ∙ not-false ok (c .before .before .before .if1 .left) in
+    let more : length (after lineFeed (l .t .now)) ≡ 0 → ⊥ =
+    rw (← c .before .before .next-line2 .ensures) (c .before .if2 .taken) in
+    c .faulty3 .ensures
+    ∙ held-fault
+    (take (l .i) (l .values))
+    (p .before .before .before .field-count .result + 3)
+    (l .inv .0)
+    (last p ∙ last-more _ _ (platesLine (l .t .now)) some more ∙ ap fault (omega arith))
+
+returns-4 : tie.Need-returns-4 Inv-loop μ-loop
+returns-4 c =
+    let p = c .before .before .before .before .before in
+    let l = p .before .before .loop in
+    let ok = p .plates-line .result .ok in
+    let some = ap (λ (h : Plates). h .ok) (sym (p .plates-line .ensures)) ∙ not-false ok (c .before .before .before .if1 .left) in
+    let nothing : length (after lineFeed (l .t .now)) ≡ 0 =
+    rw (← c .before .before .next-line2 .ensures) (c .before .if2 .left) in
+    rw (p .plates-line .ensures)
+    (last-given
+    (p .before .before .before .field-count .result + 2)
+    (after lineFeed (l .t .now))
+    (platesLine (l .t .now))
+    (l .values)
+    (l .i)
+    (search needs)
+    (l .inv .1)
+    some
+    nothing
+    ∙ ap held (sym (l .inv .0 ∙ ap (prepend (take (l .i) (l .values))) (last p))))
+
+pub read-lines-spec : {M : Type 1} → statement M
+read-lines-spec =
+    tie.close
+    (tie.spec
+    Inv-loop
+    μ-loop
+    (λ c κs. search needs)
+    loop-holds
+    (λ c κs. search needs)
+    (λ c. search needs)
+    (λ c. search needs)
+    (λ c. search needs)
+    (λ c. search needs)
+    (λ c κs. search needs)
+    returns
+    (λ c. search needs)
+    (λ c. search needs)
+    (λ c κs. search needs)
+    (λ c. search needs)
+    (λ c. search needs)
+    loop-again
+    (λ c κs. search needs)
+    (λ c. search needs)
+    (λ c. search needs)
+    (λ c κs. search needs)
+    returns-2
+    (λ c κs. search needs)
+    (λ c. search needs)
+    (λ c. search needs)
+    (λ c κs. search needs)
+    returns-3
+    returns-4)

@@ -1,0 +1,5 @@
+pub mod Fields
+pub mod Lines
+pub mod Sheet
+pub mod Outcome
+pub mod Exact

@@ -1,0 +1,59 @@
+// A sheet of key=value lines from its bytes to its report.
+mod answers;
+mod fields;
+mod lines;
+
+use answers::answer_to;
+use rules::Answer;
+ghost use Prim.Native.Nat.{_≤_};
+ghost use mathlib.Core.Path.{_≡_};
+ghost use Rattle.report.specs.Report.{longest};
+ghost use Rattle.sheet.specs.Outcome.{outcomeOf, spaceOf, lengthOf};
+ghost use Rattle.sheet.specs.Exact.{SheetExact};
+
+// What became of a sheet; `length` is that of its report.
+pub enum Outcome {
+    // The report of an accepted sheet is written.
+    Report {
+        length: usize,
+    },
+    // Causes 1 to 14: the report of two lines is written. The figure is the line of 1, the total of 14, else 0.
+    Refused {
+        cause: u32,
+        figure: u64,
+        length: usize,
+    },
+    // Cause 15: the space is shorter than the report, and as it was. The figure is the length needed.
+    ShortSpace {
+        length: usize,
+    },
+}
+
+// Answers the sheet in `text`, and writes its report to the front of `out`.
+pub fn answer(text: &[u8], out: &mut [u8]) -> Outcome
+    ensures { λ r. ⌜ r ≡ outcomeOf (now (text .entry)) (now (out .entry)) ⌝ }
+    ensures content { λ _. ⌜ now (out .exit) ≡ spaceOf (now (text .entry)) (now (out .entry)) ⌝ }
+    ensures exact { λ r. ⌜ SheetExact (now (text .entry)) r (now (out .exit)) ⌝ }
+    ensures short { λ r. ⌜ lengthOf r ≤ longest ⌝ }
+{
+    let answer = answer_to(text);
+    let length = report::write(answer, out, 0);
+    if out.len() < length {
+        return Outcome::ShortSpace { length };
+    }
+    match answer {
+        Answer::Endplate {
+            figures: _,
+            plate: _,
+        } => Outcome::Report { length },
+        Answer::BlindFlange {
+            figures: _,
+            plate: _,
+        } => Outcome::Report { length },
+        Answer::Refused { cause, figure } => Outcome::Refused {
+            cause,
+            figure,
+            length,
+        },
+    }
+}

@@ -1,0 +1,80 @@
+// The lines of a sheet after the first.
+use crate::fields::field;
+use crate::fields::field_count;
+use text::Number;
+use text::Plates;
+use text::is_line;
+use text::next_line;
+use text::no_plates;
+use text::read_plates;
+use text::value;
+ghost use mathlib.Core.Path.{_≡_};
+ghost use Rattle.sheet.specs.Fields.{fieldsOf};
+ghost use Rattle.text.specs.Plates.{held as Plates·held};
+ghost use Rattle.sheet.specs.Lines.{platesLine, linesOf, held, Lines};
+
+// The numbers of the fields, in order, and as many plates as `count` says; or the number of the first line at fault.
+pub(crate) struct SheetLines {
+    pub ok: bool,
+    pub fault: u32,
+    pub values: [u32; 14],
+    pub count: usize,
+    pub plates: [u32; 32],
+}
+
+fn faulty(line: u32) -> SheetLines
+    ensures { λ r. ⌜ r ≡ held (Lines.fault line) ⌝ }
+{
+    SheetLines {
+        ok: false,
+        fault: line,
+        values: [0; 14],
+        count: 0,
+        plates: [0; 32],
+    }
+}
+
+// The plates that the line which t begins with lists.
+fn plates_line(t: &[u8]) -> Plates
+    ensures { λ r. ⌜ r ≡ Plates·held (platesLine (now (t .entry))) ⌝ }
+{
+    if is_line(t, b"plates") {
+        return read_plates(value(t, b"plates"));
+    }
+    no_plates()
+}
+
+// The lines of a blind flange's sheet, or else of an endplate's, from the second on.
+pub(crate) fn read_lines(text: &[u8], blind: bool) -> SheetLines
+    ensures { λ r. ⌜ r ≡ held (linesOf 2 (fieldsOf blind) (now (text .entry))) ⌝ }
+{
+    let fields = field_count(blind);
+    let mut values = [0u32; 14];
+    let mut t = text;
+    let mut i = 0;
+    while i < fields {
+        let number = field(t, blind, i);
+        let Number::Value(x) = number else {
+            return faulty(i as u32 + 2);
+        };
+        values[i] = x;
+        let rest = next_line(t);
+        t = rest;
+        i += 1;
+    }
+    let plates = plates_line(t);
+    if !plates.ok {
+        return faulty(fields as u32 + 2);
+    }
+    if next_line(t).len() != 0 {
+        return faulty(fields as u32 + 3);
+    }
+    let list = plates.list;
+    SheetLines {
+        ok: true,
+        fault: 0,
+        values,
+        count: plates.count,
+        plates: list,
+    }
+}
