@@ -1,0 +1,143 @@
+-- The starred cases of document 01's "Numbers to hold", as rows of one table, and one proof that the definitions give
+-- each row. Assumes nothing.
+use Prim.Native.Nat.{ℕ}
+use Prim.Native.String.{String}
+use mathlib.Core.List.{List, [], _∷_, _++_, map}
+use mathlib.Core.Path.{_≡_, refl}
+use Rattle.bytes.specs.Bytes.{indexOf, indexAfter}
+use Rattle.tables.specs.DesignStress.{column, designStress}
+use Rattle.root.specs.Root.{ceilDiv, wholeRootBy, leastRoot, leastRootOver}
+use Rattle.rules.specs.Endplate.{endplateStress, endplateThickness}
+use Rattle.rules.specs.Gasket.{wideWidth, effectiveWidth, reactionDiameter}
+use Rattle.rules.specs.Loads.{exactOperatingLoad, exactSeatingLoad, operatingLoad, seatingLoad, flangeLoad}
+use Rattle.rules.specs.Bolts.{boltsSufficient}
+use Rattle.rules.specs.BlindFlange.{flangeThickness, edgeUnder}
+use Rattle.rules.specs.Figures.{endplateFigures, blindFlangeFigures}
+use Rattle.rules.specs.Causes.{endplateCauses, blindFlangeLimits, blindFlangeCauses}
+use Rattle.rules.specs.Plates.{smallestServing}
+use Rattle.rules.specs.Answer.{endplateAnswer, blindFlangeAnswer}
+use Rattle.text.specs.Ascii.{ascii, lineFeed}
+use Rattle.text.specs.Line.{before, after, valueOf}
+use Rattle.text.specs.Number.{numberOf}
+use Rattle.text.specs.Plates.{numbersOf, platesOf}
+use Rattle.text.specs.Decimal.{decimal, numberLine}
+use Rattle.report.specs.Report.{reportText}
+use Rattle.sheet.specs.Fields.{lineOf}
+use Rattle.sheet.specs.Lines.{platesLine, linesOf}
+use Rattle.sheet.specs.Sheet.{partOf, sheetOf, answerOf}
+
+-- the bytes of lines, each with its LF
+abbrev pub textOf : List String → List ℕ
+textOf [] = []
+textOf (line ∷ lines) = ascii line ++ lineFeed ∷ textOf lines
+
+pub data Case : Type 0 where
+  -- the design stress of a material at a temperature
+  stress : ℕ → ℕ → Case
+  -- b of a gasket width
+  width : ℕ → Case
+  -- the report of a sheet
+  sheet : List String → Case
+
+-- what the definitions give
+abbrev pub worked : Case → List ℕ
+worked (stress material temperature) = designStress material temperature ∷ []
+worked (width n) = effectiveWidth n ∷ []
+worked (sheet lines) = reportText (answerOf (textOf lines))
+
+-- an end of d 5000
+abbrev pub end : String → String → String → String → String → List String
+end form material shell temp pressure =
+    "part=end"
+    ∷ form
+    ∷ material
+    ∷ shell
+    ∷ temp
+    ∷ pressure
+    ∷ "dia=5000"
+    ∷ "allow=0"
+    ∷ "plates=3000"
+    ∷ []
+
+-- the report of one that is sized
+abbrev pub sized : String → String → String → List ℕ
+sized F T total = textOf (F ∷ T ∷ total ∷ "plate=3000" ∷ [])
+
+abbrev pub blindSheet : List String
+blindSheet =
+    "part=blind"
+    ∷ "material=1"
+    ∷ "temp=150"
+    ∷ "pressure=1000"
+    ∷ "allow=100"
+    ∷ "od=5000"
+    ∷ "width=100"
+    ∷ "m=200"
+    ∷ "y=110"
+    ∷ "circle=5600"
+    ∷ "bolt=20"
+    ∷ "root=2250"
+    ∷ "count=16"
+    ∷ "sa=100"
+    ∷ "sb=100"
+    ∷ "plates=2500,3200,4000"
+    ∷ []
+
+abbrev pub blindReport : List ℕ
+blindReport =
+    textOf
+    ("stress=108"
+    ∷ "cold=108"
+    ∷ "g=4900"
+    ∷ "b=500"
+    ∷ "wm1=219251"
+    ∷ "wm2=84623"
+    ∷ "w=289626"
+    ∷ "need=3073"
+    ∷ "edge=1913"
+    ∷ "total=3173"
+    ∷ "plate=3200"
+    ∷ [])
+
+-- a case, and what document 01 says of it
+abbrev pub table : List (Case × List ℕ)
+table =
+    -- copper plate, then carbon steel
+    (stress 6 50, 48 ∷ [])
+    ∷ (stress 6 51, 46 ∷ [])
+    ∷ (stress 6 200, 18 ∷ [])
+    ∷ (sheet (end "form=a" "material=6" "shell=0" "temp=201" "pressure=1000"), textOf ("refused=5" ∷ "place=0" ∷ []))
+    ∷ (stress 1 300, 91 ∷ [])
+    -- forms a, c, d
+    ∷ (
+      sheet (end "form=a" "material=1" "shell=0" "temp=150" "pressure=1000"),
+      sized "stress=108" "need=2406" "total=2406",
+    )
+    ∷ (
+      sheet (end "form=c" "material=1" "shell=2" "temp=150" "pressure=1000"),
+      sized "stress=89" "need=2650" "total=2650",
+    )
+    ∷ (
+      sheet (end "form=d" "material=1" "shell=1" "temp=150" "pressure=1000"),
+      sized "stress=108" "need=2778" "total=2778",
+    )
+    -- 25.00 mm exactly, and just above
+    ∷ (
+      sheet (end "form=c" "material=1" "shell=1" "temp=150" "pressure=1080"),
+      sized "stress=108" "need=2500" "total=2500",
+    )
+    ∷ (
+      sheet (end "form=c" "material=1" "shell=1" "temp=150" "pressure=1081"),
+      sized "stress=108" "need=2502" "total=2502",
+    )
+    -- b_o of 6.3 mm exactly, just above, and 10 mm
+    ∷ (width 126, 630 ∷ [])
+    ∷ (width 127, 640 ∷ [])
+    ∷ (width 200, 800 ∷ [])
+    -- the printed sheet
+    ∷ (sheet blindSheet, blindReport)
+    ∷ []
+
+pub starred : map (λ row. worked (row .0)) table ≡ map (λ row. row .1) table
+unfolding column designStress ceilDiv wholeRootBy leastRoot leastRootOver endplateStress endplateThickness wideWidth effectiveWidth reactionDiameter exactOperatingLoad exactSeatingLoad operatingLoad seatingLoad flangeLoad boltsSufficient flangeThickness edgeUnder endplateFigures blindFlangeFigures endplateCauses blindFlangeLimits blindFlangeCauses smallestServing endplateAnswer blindFlangeAnswer indexOf indexAfter before after valueOf numberOf numbersOf platesOf decimal numberLine reportText lineOf platesLine linesOf partOf sheetOf answerOf
+starred = refl

@@ -1,0 +1,41 @@
+// Reads one sheet on standard input, at most 4,096 bytes of it, and prints its report.
+use sheet::Outcome;
+use sheet::answer;
+ghost use Prim.Native.Nat.{_≤_};
+ghost use mathlib.Core.Path.{_≡_};
+ghost use lib.ListN.{length, take};
+ghost use Rattle.report.specs.Report.{reportText, longest};
+ghost use Rattle.sheet.specs.Sheet.{answerOf};
+ghost use Rattle.sheet.specs.Outcome.{lengthOf};
+
+fn length_of(outcome: Outcome) -> usize
+    ensures { λ r. ⌜ r ≡ lengthOf outcome ⌝ }
+{
+    match outcome {
+        Outcome::Report { length } => length,
+        Outcome::Refused {
+            cause: _,
+            figure: _,
+            length,
+        } => length,
+        Outcome::ShortSpace { length } => length,
+    }
+}
+
+// Writes the sheet's report to the front of `out`, and answers its length.
+fn report_of(text: &[u8], out: &mut [u8]) -> usize
+    requires { ⌜ longest ≤ length (now out) ⌝ }
+    ensures { λ r. ⌜ take r (now (out .exit)) ≡ reportText (answerOf (now (text .entry))) ⌝ }
+    ensures short { λ r. ⌜ r ≤ longest ⌝ }
+{
+    length_of(answer(text, out))
+}
+
+fn main() {
+    let mut input = [0u8; 4096];
+    let size = io::read_full(0, &mut input);
+    // One byte more than the longest report.
+    let mut space = [0u8; 320];
+    let length = report_of(&input[..size], &mut space);
+    io::write_all(1, &space[..length]);
+}
