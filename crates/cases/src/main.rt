@@ -1,7 +1,8 @@
-// Runs the calculations, the tables and the root arithmetic on the numbers of document 01 and on large ones. Each line
+// Runs the sheet reader, the calculations, the tables and the root arithmetic on the numbers of document 01 and on others. Each line
 // written is a call and its answer; the file stdout has what must be written.
 mod answers;
 mod print;
+mod sheets;
 mod vectors;
 
 use libc::STDIN_FILENO;

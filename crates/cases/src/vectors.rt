@@ -1,16 +1,21 @@
-// Runs the calculations on vectors. A line is a kind, 1 for an endplate and 2 for a blind flange, the numbers of the
-// sheet in the order of its lines, and the plates. It is written again, with the answer and with the figures by place.
+// Runs the calculations and the sheet reader on vectors, a line each, which is written again with the answer.
+// 1 for an endplate or 2 for a blind flange, then the numbers of the sheet in the order of its lines, and the plates: the
+// answer, and the figures by place. 3, then the length of the space and the text of a sheet: see sheets.rt.
 use crate::answers::answered;
 use crate::print::number;
 use crate::print::text;
+use crate::sheets::read;
+use crate::sheets::stored;
 use rules::BlindFlangeSheet;
 use rules::EndplateSheet;
 
-// The numbers of a line, as far as they are read.
+// The numbers of a line and its text, as far as they are read.
 struct Line {
     numbers: [u32; 64],
     count: usize,
     value: u32,
+    text: [u8; 512],
+    size: usize,
 }
 
 fn empty() -> Line {
@@ -18,7 +23,26 @@ fn empty() -> Line {
         numbers: [0; 64],
         count: 0,
         value: 0,
+        text: [0; 512],
+        size: 0,
     }
+}
+
+fn with_text(l: Line, byte: u8) -> Line {
+    let at = l.size;
+    if 512 <= at {
+        return l;
+    }
+    let mut next = l;
+    next.text[at] = stored(byte);
+    next.size = at + 1;
+    next
+}
+
+// The third part of a line that begins with 3.
+fn in_text(l: Line) -> bool {
+    let numbers = l.numbers;
+    (l.count == 2) & (numbers[0] == 3)
 }
 
 fn with_digit(l: Line, digit: u8) -> Line {
@@ -111,7 +135,10 @@ fn sized(n: [u32; 64], first: usize, count: usize, places: u32) {
 fn worked(l: Line) {
     let numbers = l.numbers;
     let count = l.count;
-    if numbers[0] == 1 {
+    if numbers[0] == 3 {
+        let text = l.text;
+        read(text, l.size, numbers[1]);
+    } else if numbers[0] == 1 {
         sized(numbers, 8, count, 8);
     } else {
         sized(numbers, 15, count, 15);
@@ -119,14 +146,17 @@ fn worked(l: Line) {
     text(b"\n");
 }
 
-// The line so far, with one byte more: a digit, a space or the line's end.
+// The line so far, with one byte more: a digit, a space, a byte of the text or the line's end.
 fn with_byte(l: Line, byte: u8) -> Line {
-    if byte == b' ' {
-        return with_number(l);
-    }
     if byte == b'\n' {
         worked(with_number(l));
         return empty();
+    }
+    if in_text(l) {
+        return with_text(l, byte);
+    }
+    if byte == b' ' {
+        return with_number(l);
     }
     with_digit(l, byte)
 }

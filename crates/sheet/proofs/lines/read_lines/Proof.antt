@@ -36,24 +36,26 @@ loop-holds c =
 
 returns : tie.Need-returns Inv-loop μ-loop
 returns c =
-    let l = c .before .before .before .before .before .loop in
-    let fields = fieldsOf (c .before .before .before .before .before .before .before .before .args .blind) in
+    let l = c .before .before .before .before .before in
+    let fields = fieldsOf (l .before .before .before .args .blind) in
+    let none = sym (c .before .before .before .field .ensures) ∙ c .before .enum-told .given .1 in
     c .faulty .ensures
     ∙ held-fault
-    (take (l .i) (l .values))
-    (l .i + 2)
-    (l .inv .0)
-    (line-fault fields (l .t .now) (l .i) (search needs) (cc))
+    (take (l .loop .i) (l .loop .values))
+    (l .loop .i + 2)
+    (l .loop .inv .0)
+    (line-fault fields (l .loop .t .now) (l .loop .i) (search needs) none)
 
 loop-again : tie.Need-loop-again Inv-loop μ-loop
 loop-again c =
-    let l = c .before .before .before .before .before .before .loop in
+    let l = c .before .before .before .before .before .before in
+    let fields = fieldsOf (l .before .before .before .args .blind) in
     let x = c .before .before .number .given .0 .0 in
-    let fields = fieldsOf (c .before .before .before .before .before .before .before .before .before .args .blind) in (
-      l .inv .0
-          ∙ line-more fields (l .t .now) (l .i) (search needs) (l .values) x (search needs) (cc)
+    let value = sym (c .before .before .before .before .field .ensures) ∙ c .before .before .number .given .1 in (
+      l .loop .inv .0
+          ∙ line-more fields (l .loop .t .now) (l .loop .i) (search needs) (l .loop .values) x (search needs) value
           ∙ rw (c .next-line .ensures),
-      zeros-after places (l .values) (l .i) x (search needs) (l .inv .2) (l .inv .1),
+      zeros-after places (l .loop .values) (l .loop .i) x (search needs) (l .loop .inv .2) (l .loop .inv .1),
       search needs,
       search needs,
       search needs,

@@ -5,6 +5,9 @@ use native.Mathlib.Omega.{arith}
 use borrow.Author.Needs.{needs}
 use borrow.Author.Tests.{not-true, not-false}
 use lib.ListN.{length, take, drop, set, replicate}
+use Rattle.text.specs.Ascii.{comma}
+use Rattle.text.specs.Line.{before}
+use Rattle.text.specs.Number.{numberOf}
 use Rattle.text.specs.Plates.{most, platesOf, numbersOf, held}
 use Rattle.text.proofs.Listed.{prepend, plates-none, plates-some, numbers-over, numbers-malformed}
 use Rattle.text.proofs.Listed.{listed-more, listed-last, zeros-after, held-some, held-none}
@@ -22,16 +25,23 @@ Inv-loop v list₀ count₀ t₀ list count t =
 abbrev μ-loop : tie.MeasureT-loop
 μ-loop v list₀ count₀ t₀ list count t = most - count
 
+-- the number that stands before the next comma
+spelled : (c : tie.After-read-number Inv-loop μ-loop)
+    → numberOf (before comma (c .before .before .before .loop .t .now)) ≡ c .read-number .result
+spelled c = sym (c .read-number .ensures ∙ ap numberOf (c .before .part-before .ensures))
+
 returns-2 : tie.Need-returns-2 Inv-loop μ-loop
 returns-2 c =
     let l = c .before .before .before .before .before .before .loop in
+    let none = spelled (c .before .before .before) ∙ c .before .enum-told .given .1 in
     c .no-plates .ensures
-    ∙ held-none _ (take (l .count) (l .list)) (l .inv .0) (numbers-malformed (l .t .now) (l .count) (search needs) (cc))
+    ∙ held-none _ (take (l .count) (l .list)) (l .inv .0) (numbers-malformed (l .t .now) (l .count) (search needs) none)
 
 returns-3 : tie.Need-returns-3 Inv-loop μ-loop
 returns-3 c =
     let l = c .before .before .before .before .before .before .before .before .loop in
     let x = c .before .before .before .number .given .0 .0 in
+    let value = spelled (c .before .before .before .before .before) ∙ c .before .before .before .number .given .1 in
     let alone = sym (c .before .has .ensures) ∙ not-true (c .before .has .result) (c .if2 .taken) in
     held-some
     (set (l .list) (l .count) x)
@@ -39,16 +49,17 @@ returns-3 c =
     (search needs)
     (search needs)
     (zeros-after most (l .list) (l .count) x (search needs) (l .inv .2) (l .inv .1))
-    ∙ ap held (sym (l .inv .0 ∙ listed-last (l .t .now) (l .count) (search needs) x (cc) (l .list) (search needs) alone))
+    ∙ ap held (sym (l .inv .0 ∙ listed-last (l .t .now) (l .count) (search needs) x value (l .list) (search needs) alone))
 
 loop-again : tie.Need-loop-again Inv-loop μ-loop
 loop-again c =
     let l = c .before .before .before .before .before .before .before .before .before .loop in
     let x = c .before .before .before .before .number .given .0 .0 in
+    let value = spelled (c .before .before .before .before .before .before) ∙ c .before .before .before .before .number .given .1 in
     let has = c .before .before .has in
     let more = sym (has .ensures) ∙ not-false (has .result) (c .before .if2 .left) in (
       l .inv .0
-          ∙ listed-more (l .t .now) (l .count) (search needs) x (cc) (l .list) (search needs) more
+          ∙ listed-more (l .t .now) (l .count) (search needs) x value (l .list) (search needs) more
           ∙ rw (c .part-after .ensures),
       zeros-after most (l .list) (l .count) x (search needs) (l .inv .2) (l .inv .1),
       search needs,
