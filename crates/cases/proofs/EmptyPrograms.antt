@@ -1,8 +1,8 @@
--- The six empty programs of document 01 ("Contracts and the cases"): each breaks the promise of `sheet::answer` at a sheet
--- named here. Assumes nothing.
+-- The six empty programs of document 01 ("Contracts and the cases"): each breaks the promise of `sheet::answer` at a
+-- sheet named here. Assumes nothing.
 use Prim.Native.Nat.{ℕ}
 use Prim.Native.String.{String}
-use mathlib.Core.List.{List, [], _∷_, _++_}
+use mathlib.Core.List.{List, []}
 use mathlib.Core.Path.{_≡_, refl, sym, ap, _∙_}
 use native.Mathlib.Omega.{arith}
 use lib.ListN.{length, getD, replicate}
@@ -20,7 +20,7 @@ use Rattle.report.specs.Space.{writtenAt, laid}
 use Rattle.sheet.specs.Sheet.{answerOf}
 use Rattle.sheet.specs.Outcome.{written, outcomeOf, spaceOf, causeOf, lengthOf}
 use Rattle.sheet.specs.declared.Outcome.{Outcome}
-use Rattle.sheet.specs.declared.Outcome.the-variants.{Report, Refused}
+use Rattle.sheet.specs.declared.Outcome.the-variants.{Report}
 use Rattle.cases.proofs.Starred.{textOf, end, sized, blindSheet, blindReport, starred}
 
 -- what a program answers to a text and a space, and what it leaves in the space
@@ -104,8 +104,10 @@ module _ (f : Program) (promise : Promise f) where
       ((text other space : List ℕ) → before lineFeed text ≡ before lineFeed other → f text space ≡ f other space) → ⊥
   unfolding before indexOf indexAfter
   part-line-only reads =
-      let same = ap (λ (r : Outcome × List ℕ). r .1) (reads (endAt "pressure=1080") (endAt "pressure=1081") space refl) in
-      let spaces = sym (promise (endAt "pressure=1080") space .1) ∙ same ∙ promise (endAt "pressure=1081") space .1 in
+      let one = endAt "pressure=1080" in
+      let two = endAt "pressure=1081" in
+      let same = ap (λ (r : Outcome × List ℕ). r .1) (reads one two space refl) in
+      let spaces = sym (promise one space .1) ∙ same ∙ promise two space .1 in
       two-needs need-1080 (ap (printed "need") spaces ∙ need-1081)
 
   -- returning an invented length

@@ -139,5 +139,10 @@ table =
     ∷ []
 
 pub starred : map (λ row. worked (row .0)) table ≡ map (λ row. row .1) table
-unfolding column designStress ceilDiv wholeRootBy leastRoot leastRootOver endplateStress endplateThickness wideWidth effectiveWidth reactionDiameter exactOperatingLoad exactSeatingLoad operatingLoad seatingLoad flangeLoad boltsSufficient flangeThickness edgeUnder endplateFigures blindFlangeFigures endplateCauses blindFlangeLimits blindFlangeCauses smallestServing endplateAnswer blindFlangeAnswer indexOf indexAfter before after valueOf numberOf numbersOf platesOf decimal numberLine reportText lineOf platesLine linesOf partOf sheetOf answerOf
+unfolding column designStress ceilDiv wholeRootBy leastRoot leastRootOver endplateStress endplateThickness
+    wideWidth effectiveWidth reactionDiameter exactOperatingLoad exactSeatingLoad operatingLoad seatingLoad
+    flangeLoad boltsSufficient flangeThickness edgeUnder endplateFigures blindFlangeFigures endplateCauses
+    blindFlangeLimits blindFlangeCauses smallestServing endplateAnswer blindFlangeAnswer indexOf indexAfter
+    before after valueOf numberOf numbersOf platesOf decimal numberLine reportText lineOf platesLine linesOf
+    partOf sheetOf answerOf
 starred = refl

@@ -9,8 +9,8 @@ ghost use lib.ListN.{length};
 ghost use Rattle.report.specs.Report.{reportText, longest};
 ghost use Rattle.report.specs.Space.{laid};
 
-// The length of the answer's report. Where it fits, the report stands in `out` from index `at` on; where it does not, `out`
-// is as it was.
+// The length of the answer's report. Where it fits, the report stands in `out` from index `at` on; where it does not,
+// `out` is as it was.
 pub fn write(answer: Answer, out: &mut [u8], at: usize) -> usize
     ensures { λ r. ⌜ r ≡ length (reportText answer) ⌝ }
     ensures content { λ _. ⌜ now (out .exit) ≡ laid at (reportText answer) (now (out .entry)) ⌝ }

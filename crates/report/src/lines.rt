@@ -3,7 +3,6 @@ use rules::Answer;
 use rules::BlindFlangeFigures;
 use rules::EndplateFigures;
 ghost use Prim.Native.Nat.{_+_, _≤_};
-ghost use mathlib.Core.Path.{_≡_};
 ghost use lib.ListN.{length};
 ghost use Rattle.rules.specs.declared.Answer.the-variants.{Endplate, BlindFlange, Refused};
 ghost use Rattle.text.specs.Decimal.{decimal, numberLine};
@@ -25,7 +24,8 @@ fn put(out: &mut [u8], at: usize, text: &[u8]) -> usize
 
 fn put_decimal(out: &mut [u8], at: usize, n: u64) -> usize
     requires { ⌜ at + 20 ≤ length (now out) ⌝ }
-    ensures { λ r. ⌜ Wrote (now (out .entry)) at (decimal n) r (now (out .exit)) × (r ≤ at + 20) ⌝ }
+    ensures { λ r. ⌜ Wrote (now (out .entry)) at (decimal n) r (now (out .exit)) ⌝ }
+    ensures short { λ r. ⌜ r ≤ at + 20 ⌝ }
 {
     let mut digits = [0u8; 20];
     let count = io::decimal(n, &mut digits);
@@ -36,7 +36,8 @@ fn put_decimal(out: &mut [u8], at: usize, n: u64) -> usize
 fn put_line(out: &mut [u8], at: usize, key: &[u8], n: u64) -> usize
     requires { ⌜ length (now key) ≤ 7 ⌝ }
     requires { ⌜ at + 29 ≤ length (now out) ⌝ }
-    ensures { λ r. ⌜ Wrote (now (out .entry)) at (numberLine (now (key .entry)) n) r (now (out .exit)) × (r ≤ at + 29) ⌝ }
+    ensures { λ r. ⌜ Wrote (now (out .entry)) at (numberLine (now (key .entry)) n) r (now (out .exit)) ⌝ }
+    ensures short { λ r. ⌜ r ≤ at + 29 ⌝ }
 {
     let at = put(out, at, key);
     let at = put(out, at, b"=");
@@ -46,7 +47,8 @@ fn put_line(out: &mut [u8], at: usize, key: &[u8], n: u64) -> usize
 
 fn endplate_lines(figures: EndplateFigures, plate: u32, out: &mut [u8]) -> usize
     requires { ⌜ longest ≤ length (now out) ⌝ }
-    ensures { λ r. ⌜ Wrote (now (out .entry)) 0 (reportText (Endplate figures plate)) r (now (out .exit)) × (r ≤ longest) ⌝ }
+    ensures { λ r. ⌜ Wrote (now (out .entry)) 0 (reportText (Endplate figures plate)) r (now (out .exit)) ⌝ }
+    ensures short { λ r. ⌜ r ≤ longest ⌝ }
 {
     let at = put_line(out, 0, b"stress", figures.design_stress);
     let at = put_line(out, at, b"need", figures.thickness);
@@ -56,7 +58,8 @@ fn endplate_lines(figures: EndplateFigures, plate: u32, out: &mut [u8]) -> usize
 
 fn blind_flange_lines(f: BlindFlangeFigures, plate: u32, out: &mut [u8]) -> usize
     requires { ⌜ longest ≤ length (now out) ⌝ }
-    ensures { λ r. ⌜ Wrote (now (out .entry)) 0 (reportText (BlindFlange f plate)) r (now (out .exit)) × (r ≤ longest) ⌝ }
+    ensures { λ r. ⌜ Wrote (now (out .entry)) 0 (reportText (BlindFlange f plate)) r (now (out .exit)) ⌝ }
+    ensures short { λ r. ⌜ r ≤ longest ⌝ }
 {
     let at = put_line(out, 0, b"stress", f.design_stress);
     let at = put_line(out, at, b"cold", f.ambient_stress);
@@ -73,7 +76,8 @@ fn blind_flange_lines(f: BlindFlangeFigures, plate: u32, out: &mut [u8]) -> usiz
 
 fn refused_lines(cause: u32, figure: u64, out: &mut [u8]) -> usize
     requires { ⌜ longest ≤ length (now out) ⌝ }
-    ensures { λ r. ⌜ Wrote (now (out .entry)) 0 (reportText (Refused cause figure)) r (now (out .exit)) × (r ≤ longest) ⌝ }
+    ensures { λ r. ⌜ Wrote (now (out .entry)) 0 (reportText (Refused cause figure)) r (now (out .exit)) ⌝ }
+    ensures short { λ r. ⌜ r ≤ longest ⌝ }
 {
     let at = put_line(out, 0, b"refused", cause as u64);
     put_line(out, at, b"place", figure)
@@ -82,7 +86,8 @@ fn refused_lines(cause: u32, figure: u64, out: &mut [u8]) -> usize
 // The report, from the front of `out`.
 pub(crate) fn spell(answer: Answer, out: &mut [u8]) -> usize
     requires { ⌜ longest ≤ length (now out) ⌝ }
-    ensures { λ r. ⌜ Wrote (now (out .entry)) 0 (reportText answer) r (now (out .exit)) × (r ≤ longest) ⌝ }
+    ensures { λ r. ⌜ Wrote (now (out .entry)) 0 (reportText answer) r (now (out .exit)) ⌝ }
+    ensures short { λ r. ⌜ r ≤ longest ⌝ }
 {
     match answer {
         Answer::Endplate { figures, plate } => endplate_lines(figures, plate, out),

@@ -1,9 +1,9 @@
 -- The lines of a sheet, one by one.
-use Prim.Native.Nat.{ℕ, suc, _+_, _-_, _≤_, _<_}
+use Prim.Native.Nat.{ℕ, _+_, _-_, _≤_, _<_}
 use mathlib.Core.Bool.{Bool, true, false, true≢false, false≢true}
 use mathlib.Core.List.{List, [], _∷_, _++_, append-assoc, append-nil}
 use mathlib.Core.Option.{Option, none, some}
-use mathlib.Core.Path.{_≡_, refl, sym, ap, _∙_}
+use mathlib.Core.Path.{_≡_, refl, sym, ap}
 use native.Mathlib.Nat.{le-refl}
 use native.Mathlib.Numerals.{add-one}
 use native.Mathlib.Omega.{arith}
@@ -11,15 +11,13 @@ use borrow.Author.Tests.{eq-eqb, ne-eqb}
 use lib.Dec.{lit≤}
 use lib.ListN.{length, take, drop, set, getD, replicate, drop-of-length-le}
 use lib.Seq.{drop-cons, take-suc-set}
-use Rattle.text.specs.Ascii.{ascii, lineFeed}
-use Rattle.text.specs.Line.{isLine, valueOf, after}
+use Rattle.text.specs.Ascii.{lineFeed}
+use Rattle.text.specs.Line.{after}
 use Rattle.text.specs.Plates.{held as Plates·held}
 use Rattle.text.specs.declared.number.Number.the-variants.{Value, Malformed}
-use Rattle.text.specs.declared.plates.Plates.{Plates}
 use Rattle.text.proofs.Listed.{zeros-fill}
 use Rattle.sheet.specs.Fields.{Field, fieldOf, fieldsOf, noField}
 use Rattle.sheet.specs.Lines.{Lines, fault, given, ahead, platesLine, lastLine, linesOf, places, held}
-use Rattle.sheet.specs.declared.lines.SheetLines.{SheetLines}
 
 -- the numbers read so far, before what the rest is read as
 abbrev pub prepend : List ℕ → Lines → Lines

@@ -1,5 +1,5 @@
--- What a caller reads off an outcome: its length is the report's, and in a space that is long enough the report stands at
--- the front. Assumes nothing.
+-- What a caller reads off an outcome: its length is the report's, and in a space that is long enough the report stands
+-- at the front. Assumes nothing.
 use Prim.Native.Nat.{ℕ, _≤_}
 use mathlib.Core.Bool.{Bool, true, false, cond}
 use mathlib.Core.List.{List}

@@ -1,7 +1,7 @@
 -- A plate list, number by number.
 use Prim.Native.Nat.{ℕ, suc, _+_, _-_, _≤_, _<_}
 use mathlib.Core.Bool.{true, false}
-use mathlib.Core.List.{List, [], _∷_, _++_, append-assoc, append-nil}
+use mathlib.Core.List.{List, [], _∷_, _++_, append-assoc}
 use mathlib.Core.Option.{Option, none, some}
 use mathlib.Core.Path.{_≡_, refl, sym, ap, _∙_}
 use native.Mathlib.Numerals.{add-one}
@@ -14,7 +14,6 @@ use Rattle.text.specs.Line.{holds, before, after}
 use Rattle.text.specs.Number.{numberOf}
 use Rattle.text.specs.Plates.{most, ahead, numbersOf, platesOf, held}
 use Rattle.text.specs.declared.number.Number.the-variants.{Value, Malformed}
-use Rattle.text.specs.declared.plates.Plates.{Plates}
 
 -- a list read so far, before what the rest is read as
 abbrev pub prepend : List ℕ → Option (List ℕ) → Option (List ℕ)

@@ -1,7 +1,7 @@
 -- Parts of a text: the kit's search of a whole text, the bytes that a text begins with, the parts around a byte.
-use Prim.Native.Nat.{ℕ, _+_, _-_, _≤_, _<_}
-use mathlib.Core.Bool.{true, false, and-false}
-use mathlib.Core.List.{List, [], _∷_}
+use Prim.Native.Nat.{ℕ, suc, _+_, _-_, _≤_, _<_}
+use mathlib.Core.Bool.{Bool, true, false, and-false}
+use mathlib.Core.List.{List, [], _∷_, _++_}
 use mathlib.Core.Path.{_≡_, refl}
 use native.Mathlib.Nat.{le-refl}
 use native.Mathlib.Numerals.{add-one}
@@ -10,7 +10,7 @@ use borrow.Author.Tests.{eq-eqb, ne-eqb}
 use lib.Dec.{eqb}
 use lib.ListN.{length, take, drop, getD, length-drop, drop-of-length-le, List·getD-eq-default}
 use lib.Seq.{take-all, drop-cons}
-use Rattle.bytes.specs.Bytes.{slice, indexOf}
+use Rattle.bytes.specs.Bytes.{slice, indexOf, indexAfter}
 use Rattle.text.specs.Ascii.{lineFeed}
 use Rattle.text.specs.Line.{begins, isLine, after, valueOf}
 
@@ -59,3 +59,20 @@ begins-all s t i h = rw (drop-of-length-le s h)
 pub line-short : (key t : List ℕ) → length t ≤ length key → isLine key t ≡ false
 line-short key t h =
     rw (List·getD-eq-default t 0 h, and-false (begins key t))
+
+-- ---- where a byte is
+
+-- b is not among the bytes of xs
+abbrev pub Lacks : ℕ → List ℕ → Type 0
+Lacks b xs = indexOf b xs ≡ length xs
+
+pub index-append : (b : ℕ) (xs ys : List ℕ) → Lacks b xs → indexOf b (xs ++ ys) ≡ length xs + indexOf b ys
+unfolding indexOf indexAfter
+index-append b [] ys e = omega arith
+index-append b (x ∷ xs) ys e = go (eqb x b) e (index-append b xs ys)
+  where
+    go : (t : Bool) → indexAfter t (indexOf b xs) ≡ suc (length xs)
+        → (indexOf b xs ≡ length xs → indexOf b (xs ++ ys) ≡ length xs + indexOf b ys)
+        → indexAfter t (indexOf b (xs ++ ys)) ≡ suc (length xs) + indexOf b ys
+    go true q f = absurd (omega arith)
+    go false q f = omega (arith, f (omega arith))

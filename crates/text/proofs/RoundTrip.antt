@@ -1,11 +1,10 @@
 -- A line that shows a number is read back as that number, whatever follows it.
-use Prim.Native.Nat.{ℕ, suc, _+_, _-_, _/_, _%_}
-use mathlib.Core.Bool.{Bool, true, false}
+use Prim.Native.Nat.{ℕ, suc, _+_, _-_}
+use mathlib.Core.Bool.{true, false}
 use mathlib.Core.List.{List, [], _∷_, _++_, append-assoc}
 use mathlib.Core.Path.{_≡_, refl, sym, _∙_}
 use native.Mathlib.Omega.{arith}
 use borrow.Author.Tests.{eq-eqb, ne-eqb, lt-ltb}
-use lib.Dec.{eqb}
 use lib.ListN.{length, length-append}
 use lib.Seq.{drop-append-seam, drop-append-add, take-append-seam, getD-append-seam}
 use Rattle.bytes.specs.Bytes.{indexOf, indexAfter}
@@ -14,35 +13,8 @@ use Rattle.text.specs.Line.{begins, holds, after, isLine, valueOf}
 use Rattle.text.specs.Decimal.{decimal, numberLine}
 use Rattle.text.specs.Printed.{printedWithin}
 use Rattle.text.specs.declared.number.Number.the-variants.{Value}
-use Rattle.text.proofs.Spelled.{by-digits, decimal-one, decimal-more, decimal-reads, decimal-some}
-
--- b is not among the bytes of xs
-abbrev pub Lacks : ℕ → List ℕ → Type 0
-Lacks b xs = indexOf b xs ≡ length xs
-
-index-append : (b : ℕ) (xs ys : List ℕ) → Lacks b xs → indexOf b (xs ++ ys) ≡ length xs + indexOf b ys
-unfolding indexOf indexAfter
-index-append b [] ys e = omega arith
-index-append b (x ∷ xs) ys e = go (eqb x b) e (index-append b xs ys)
-  where
-    go : (t : Bool) → indexAfter t (indexOf b xs) ≡ suc (length xs)
-        → (indexOf b xs ≡ length xs → indexOf b (xs ++ ys) ≡ length xs + indexOf b ys)
-        → indexAfter t (indexOf b (xs ++ ys)) ≡ suc (length xs) + indexOf b ys
-    go true q f = absurd (omega arith)
-    go false q f = omega (arith, f (omega arith))
-
-decimal-line : (n : ℕ) → Lacks lineFeed (decimal n)
-unfolding indexOf indexAfter
-decimal-line =
-    by-digits (λ n. Lacks lineFeed (decimal n))
-    (λ n h. rw (decimal-one n h, ne-eqb (48 + n) 10 (λ e. omega arith)))
-    (λ n h p.
-    rw (
-      decimal-more n h,
-      length-append,
-      index-append lineFeed (decimal (n / 10)) ((48 + n % 10) ∷ []) p,
-      ne-eqb (48 + n % 10) 10 (λ e. omega arith),
-    ))
+use Rattle.text.proofs.Parts.{Lacks, index-append}
+use Rattle.text.proofs.Spelled.{decimal-reads, decimal-some, decimal-line}
 
 begins-append : (s t : List ℕ) → begins s (s ++ t) ≡ true
 begins-append [] t = refl

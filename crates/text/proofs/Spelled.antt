@@ -4,12 +4,15 @@ use mathlib.Core.Bool.{Bool, true, false, cond}
 use mathlib.Core.List.{List, [], _∷_, _++_}
 use mathlib.Core.Path.{_≡_, refl, ap, _∙_}
 use native.Mathlib.Omega.{arith}
-use borrow.Author.Tests.{ltb-true, ltb-false, le-leb, lt-ltb, le-ltb}
+use borrow.Author.Tests.{ltb-true, ltb-false, le-leb, lt-ltb, le-ltb, ne-eqb}
 use lib.Dec.{ltb}
 use lib.ListN.{length, length-append}
+use Rattle.bytes.specs.Bytes.{indexOf, indexAfter}
+use Rattle.text.specs.Ascii.{lineFeed}
 use Rattle.text.specs.Number.{isDigit, digitsAfter}
 use Rattle.text.specs.Decimal.{digitsOf, decimal}
 use Rattle.text.specs.declared.number.Number.the-variants.{Value, Malformed}
+use Rattle.text.proofs.Parts.{Lacks, index-append}
 
 -- fuel beyond n changes nothing
 fuel : (f g n : ℕ) → n ≤ f → n ≤ g → digitsOf f n ≡ digitsOf g n
@@ -76,3 +79,17 @@ decimal-some =
     by-digits (λ n. 1 ≤ length (decimal n))
     (λ n h. rw (decimal-one n h) (omega arith))
     (λ n h p. rw (decimal-more n h, length-append) (omega arith))
+
+-- no LF is among the digits
+pub decimal-line : (n : ℕ) → Lacks lineFeed (decimal n)
+unfolding indexOf indexAfter
+decimal-line =
+    by-digits (λ n. Lacks lineFeed (decimal n))
+    (λ n h. rw (decimal-one n h, ne-eqb (48 + n) 10 (λ e. omega arith)))
+    (λ n h p.
+    rw (
+      decimal-more n h,
+      length-append,
+      index-append lineFeed (decimal (n / 10)) ((48 + n % 10) ∷ []) p,
+      ne-eqb (48 + n % 10) 10 (λ e. omega arith),
+    ))

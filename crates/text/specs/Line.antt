@@ -17,7 +17,7 @@ begins (b ∷ s) (x ∷ t) = eqb x b && begins s t
 abbrev pub holds : ℕ → List ℕ → Bool
 holds b t = ltb (indexOf b t) (length t)
 
--- what stands before the first byte b of t, all of t where it has none; and what stands after it, nothing where it has none
+-- what stands before the first byte b of t: all of t where it has none; and after it: nothing where it has none
 unfoldable pub before : ℕ → List ℕ → List ℕ
 before b t = take (indexOf b t) t
 

@@ -1,5 +1,6 @@
 -- `lines::read_lines` meets its contract. Assumes nothing.
 use Prim.Native.Nat.{ℕ, _+_, _-_, _≤_}
+use mathlib.Core.Bool.{Bool, true, false}
 use mathlib.Core.Path.{_≡_, refl, sym, ap, _∙_}
 use native.Mathlib.Omega.{arith}
 use borrow.Author.Needs.{needs}
@@ -7,6 +8,7 @@ use borrow.Author.Tests.{not-true, not-false}
 use lib.ListN.{length, take, drop, replicate}
 use Rattle.text.specs.Ascii.{lineFeed}
 use Rattle.text.specs.Line.{after}
+use Rattle.text.specs.Plates.{held as Plates·held}
 use Rattle.text.specs.declared.plates.Plates.{Plates}
 use Rattle.text.proofs.Listed.{zeros-after}
 use Rattle.sheet.specs.Fields.{fieldsOf}
@@ -73,53 +75,50 @@ last c =
     lines-last _ _ _ (l .loop .i) (omega arith)
     ∙ ap (λ (line : ℕ). lastLine line (platesLine (l .loop .t .now)) (after lineFeed (l .loop .t .now))) e
 
+-- so a fault there is the sheet's
+last-at-fault : (c : tie.After-plates-line Inv-loop μ-loop) (k : ℕ)
+    → let l = c .before .before in
+    let t = l .loop .t .now in
+    let a = l .before .before .before .args in
+    lastLine (l .before .field-count .result + 2) (platesLine t) (after lineFeed t) ≡ fault k
+    → held (fault k) ≡ held (linesOf 2 (fieldsOf (a .blind)) (a .text .now))
+last-at-fault c k e =
+    let l = c .before .before .loop in
+    held-fault (take (l .i) (l .values)) k (l .inv .0) (last c ∙ e)
+
+-- whether the plates are a list
+listed : (c : tie.After-plates-line Inv-loop μ-loop) (b : Bool) → c .plates-line .result .ok ≡ b
+    → Plates·held (platesLine (c .before .before .loop .t .now)) .ok ≡ b
+listed c b e = ap (λ (h : Plates). h .ok) (sym (c .plates-line .ensures)) ∙ e
+
 returns-2 : tie.Need-returns-2 Inv-loop μ-loop
 returns-2 c =
     let p = c .before .before .before in
-    let l = p .before .before .loop in
-    let ok = p .plates-line .result .ok in
-    let none = ap (λ (h : Plates). h .ok) (sym (p .plates-line .ensures)) ∙ not-true ok (c .before .if1 .taken) in
-    c .faulty2 .ensures
-    ∙ held-fault
-    (take (l .i) (l .values))
-    (p .before .before .before .field-count .result + 2)
-    (l .inv .0)
-    (last p ∙ last-fault _ _ (platesLine (l .t .now)) none)
+    let none = listed p false (not-true _ (c .before .if1 .taken)) in
+    let t = p .before .before .loop .t .now in
+    c .faulty2 .ensures ∙ last-at-fault p _ (last-fault _ (after lineFeed t) (platesLine t) none)
 
 returns-3 : tie.Need-returns-3 Inv-loop μ-loop
 returns-3 c =
     let p = c .before .before .before .before .before in
-    let l = p .before .before .loop in
-    let ok = p .plates-line .result .ok in
-    let some = ap (λ (h : Plates). h .ok) (sym (p .plates-line .ensures)) ∙ not-false ok (c .before .before .before .if1 .left) in
-    let more : length (after lineFeed (l .t .now)) ≡ 0 → ⊥ =
+    let some = listed p true (not-false _ (c .before .before .before .if1 .left)) in
+    let t = p .before .before .loop .t .now in
+    let count = p .before .before .before .field-count .result in
+    let more : length (after lineFeed t) ≡ 0 → ⊥ =
     rw (← c .before .before .next-line2 .ensures) (c .before .if2 .taken) in
+    let next : count + 2 + 1 ≡ count + 3 = omega arith in
     c .faulty3 .ensures
-    ∙ held-fault
-    (take (l .i) (l .values))
-    (p .before .before .before .field-count .result + 3)
-    (l .inv .0)
-    (last p ∙ last-more _ _ (platesLine (l .t .now)) some more ∙ ap fault (omega arith))
+    ∙ last-at-fault p (count + 3) (last-more _ (after lineFeed t) (platesLine t) some more ∙ ap fault next)
 
 returns-4 : tie.Need-returns-4 Inv-loop μ-loop
 returns-4 c =
     let p = c .before .before .before .before .before in
     let l = p .before .before .loop in
-    let ok = p .plates-line .result .ok in
-    let some = ap (λ (h : Plates). h .ok) (sym (p .plates-line .ensures)) ∙ not-false ok (c .before .before .before .if1 .left) in
+    let some = listed p true (not-false _ (c .before .before .before .if1 .left)) in
     let nothing : length (after lineFeed (l .t .now)) ≡ 0 =
     rw (← c .before .before .next-line2 .ensures) (c .before .if2 .left) in
     rw (p .plates-line .ensures)
-    (last-given
-    (p .before .before .before .field-count .result + 2)
-    (after lineFeed (l .t .now))
-    (platesLine (l .t .now))
-    (l .values)
-    (l .i)
-    (search needs)
-    (l .inv .1)
-    some
-    nothing
+    (last-given _ _ (platesLine (l .t .now)) (l .values) (l .i) (search needs) (l .inv .1) some nothing
     ∙ ap held (sym (l .inv .0 ∙ ap (prepend (take (l .i) (l .values))) (last p))))
 
 pub read-lines-spec : {M : Type 1} → statement M

@@ -49,13 +49,15 @@ returns-3 c =
     (search needs)
     (search needs)
     (zeros-after most (l .list) (l .count) x (search needs) (l .inv .2) (l .inv .1))
-    ∙ ap held (sym (l .inv .0 ∙ listed-last (l .t .now) (l .count) (search needs) x value (l .list) (search needs) alone))
+    ∙ ap held
+    (sym (l .inv .0 ∙ listed-last (l .t .now) (l .count) (search needs) x value (l .list) (search needs) alone))
 
 loop-again : tie.Need-loop-again Inv-loop μ-loop
 loop-again c =
     let l = c .before .before .before .before .before .before .before .before .before .loop in
-    let x = c .before .before .before .before .number .given .0 .0 in
-    let value = spelled (c .before .before .before .before .before .before) ∙ c .before .before .before .before .number .given .1 in
+    let k = c .before .before .before .before in
+    let x = k .number .given .0 .0 in
+    let value = spelled (k .before .before) ∙ k .number .given .1 in
     let has = c .before .before .has in
     let more = sym (has .ensures) ∙ not-false (has .result) (c .before .if2 .left) in (
       l .inv .0
