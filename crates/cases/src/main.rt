@@ -1,5 +1,5 @@
-// Runs the sheet reader, the calculations, the tables and the root arithmetic on the numbers of document 01 and on others. Each line
-// written is a call and its answer; the file stdout has what must be written.
+// Runs the sheet reader, the calculations, the tables and the root arithmetic on the numbers of document 01 and on
+// others. Each line written is a call and its answer; the file stdout has what must be written.
 mod answers;
 mod print;
 mod sheets;

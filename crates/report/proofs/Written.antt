@@ -1,6 +1,6 @@
 -- Text written over a part of a space, piece by piece and all at once. Assumes nothing.
 use Prim.Native.Nat.{ℕ, zero, suc, _+_, _-_, _≤_, _<_}
-use mathlib.Core.List.{List, [], _∷_, _++_, append-assoc, append-nil}
+use mathlib.Core.List.{List, [], _∷_, _++_, append-nil}
 use mathlib.Core.Path.{_≡_, refl, sym, ap, _∙_}
 use native.Mathlib.Nat.{le-of-eq, zero-add, add-zero, suc-add}
 use native.Mathlib.Omega.{arith}
@@ -8,7 +8,7 @@ use borrow.Author.Tests.{le-leb, lt-leb}
 use borrow.Rule.Slice.PartAt.{part-to-end}
 use borrow.Rule.Slice.PartMut.{midOf, putMid}
 use lib.ListN.{length, take, drop, length-append, length-drop, drop-of-length-le, take-append-drop}
-use lib.Seq.{take-all, take-length, take-nil, drop-nil, drop-drop, take-append-seam, paste}
+use lib.Seq.{take-all, take-length, take-nil, drop-nil, drop-drop, take-append-seam}
 use Rattle.report.specs.Space.{writtenAt, laid, Wrote}
 
 -- ---- one piece after another
@@ -52,11 +52,6 @@ then {d} {d'} {d''} {s} {t} {at} {r} {r'} v w =
     }
 
 -- ---- a whole text
-
--- copied byte by byte, s stands there when all its bytes do
-pub pasted : (d : List ℕ) (at : ℕ) (s : List ℕ) → paste d at s (length s) ≡ writtenAt at s d
-unfolding writtenAt
-pasted d at s = rw (take-length s, append-assoc)
 
 -- copied over the front of the part of the space from at on
 pub copied : (d : List ℕ) (at : ℕ) (s : List ℕ)

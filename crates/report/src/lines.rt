@@ -14,12 +14,8 @@ fn put(out: &mut [u8], at: usize, text: &[u8]) -> usize
     requires { ⌜ at + length (now text) ≤ length (now out) ⌝ }
     ensures { λ r. ⌜ Wrote (now (out .entry)) at (now (text .entry)) r (now (out .exit)) ⌝ }
 {
-    let mut i = 0;
-    while i < text.len() {
-        out[at + i] = text[i];
-        i += 1;
-    }
-    at + i
+    bytes::copy(text, &mut out[at..]);
+    at + text.len()
 }
 
 fn put_decimal(out: &mut [u8], at: usize, n: u64) -> usize

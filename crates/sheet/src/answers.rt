@@ -54,7 +54,7 @@ fn is_part(text: &[u8], word: &[u8]) -> bool
     is_line(text, b"part") & is_text(value(text, b"part"), word)
 }
 
-// The lines of a blind flange, or else of an endplate, from the second on.
+// The answer to a sheet of a blind flange, or else of an endplate, by its lines from the second on.
 fn part_answer(text: &[u8], blind: bool) -> Answer
     ensures { λ r. ⌜ r ≡ answered (partOf blind (now (text .entry))) ⌝ }
 {

@@ -29,7 +29,7 @@ numbersOf (suc k) t =
     ahead (numberOf (before comma t)) (cond (holds comma t) more (some []))
 
 unfoldable pub platesOf : List ℕ → Option (List ℕ)
-platesOf v = let some-of-them = numbersOf most v in cond (eqb (length v) 0) (some []) some-of-them
+platesOf v = let listed = numbersOf most v in cond (eqb (length v) 0) (some []) listed
 
 -- how a list is handed back: in the first places of an array, zeros after it
 abbrev pub held : Option (List ℕ) → Plates
