@@ -1,17 +1,19 @@
 -- What a caller reads off an outcome: its length is the report's, and in a space that is long enough the report stands
 -- at the front. Assumes nothing.
-use Prim.Native.Nat.{ℕ, _≤_}
+use Prim.Native.Nat.{ℕ, _≤_, _<_}
 use mathlib.Core.Bool.{Bool, true, false, cond}
 use mathlib.Core.List.{List}
 use mathlib.Core.Path.{_≡_, refl}
+use borrow.Author.Tests.{le-leb, lt-leb}
 use lib.Dec.{leb}
 use lib.ListN.{length, take}
+use Rattle.rules.specs.Answer.{causeOf as Answer·causeOf, figureOf as Answer·figureOf}
 use Rattle.rules.specs.declared.Answer.{Answer}
 use Rattle.rules.specs.declared.Answer.the-variants.{Endplate, BlindFlange, Refused}
 use Rattle.report.specs.Report.{reportText}
 use Rattle.report.proofs.Written.{laid-front}
 use Rattle.sheet.specs.Sheet.{answerOf}
-use Rattle.sheet.specs.Outcome.{written, outcomeOf, spaceOf, lengthOf}
+use Rattle.sheet.specs.Outcome.{written, outcomeOf, spaceOf, causeOf, figureOf, lengthOf}
 use Rattle.sheet.specs.declared.Outcome.the-variants.{ShortSpace}
 
 length-either : (fits : Bool) (a : Answer) (n : ℕ) → lengthOf (cond fits (written a n) (ShortSpace n)) ≡ n
@@ -30,3 +32,31 @@ pub space-front : (text space : List ℕ) → length (reportText (answerOf text)
     → take (length (reportText (answerOf text))) (spaceOf text space) ≡ reportText (answerOf text)
 unfolding spaceOf
 space-front text space h = laid-front (reportText (answerOf text)) space h
+
+-- ---- document 01's numbers: those of the answer where its report fits, else 15 and the length needed
+
+written-cause : (a : Answer) (n : ℕ) → causeOf (written a n) ≡ Answer·causeOf a
+written-cause (Endplate f plate) n = refl
+written-cause (BlindFlange f plate) n = refl
+written-cause (Refused cause figure) n = refl
+
+written-figure : (a : Answer) (n : ℕ) → figureOf (written a n) ≡ Answer·figureOf a
+written-figure (Endplate f plate) n = refl
+written-figure (BlindFlange f plate) n = refl
+written-figure (Refused cause figure) n = refl
+
+module _ (text space : List ℕ) where
+  abbrev size : ℕ
+  size = length (reportText (answerOf text))
+
+  pub outcome-fits : size ≤ length space
+      → (causeOf (outcomeOf text space) ≡ Answer·causeOf (answerOf text))
+      × (figureOf (outcomeOf text space) ≡ Answer·figureOf (answerOf text))
+  unfolding outcomeOf
+  outcome-fits h =
+      rw (le-leb size (length space) h) (written-cause (answerOf text) size, written-figure (answerOf text) size)
+
+  pub outcome-short : length space < size
+      → (causeOf (outcomeOf text space) ≡ 15) × (figureOf (outcomeOf text space) ≡ size)
+  unfolding outcomeOf
+  outcome-short h = rw (lt-leb size (length space) h) (refl, refl)
