@@ -2,7 +2,7 @@
 -- sheet named here. Assumes nothing.
 use Prim.Native.Nat.{ℕ}
 use Prim.Native.String.{String}
-use mathlib.Core.List.{List, []}
+use mathlib.Core.List.{List}
 use mathlib.Core.Path.{_≡_, refl, sym, ap, _∙_}
 use native.Mathlib.Omega.{arith}
 use lib.ListN.{length, getD, replicate}
@@ -21,7 +21,7 @@ use Rattle.sheet.specs.Sheet.{answerOf}
 use Rattle.sheet.specs.Outcome.{written, outcomeOf, spaceOf, causeOf, lengthOf}
 use Rattle.sheet.specs.declared.Outcome.{Outcome}
 use Rattle.sheet.specs.declared.Outcome.the-variants.{Report}
-use Rattle.cases.proofs.Starred.{textOf, end, sized, blindSheet, blindReport, starred}
+use Rattle.cases.proofs.Starred.{textOf, end, sized, blindSheet, blindReport, row}
 
 -- what a program answers to a text and a space, and what it leaves in the space
 abbrev pub Program : Type 0
@@ -44,13 +44,13 @@ abbrev pub space : List ℕ
 space = replicate 200 0
 
 printed-report : reportText (answerOf printedSheet) ≡ blindReport
-printed-report = ap (λ rows. getD rows 13 []) starred
+printed-report = row 13
 
 end-1080 : reportText (answerOf (endAt "pressure=1080")) ≡ sized "stress=108" "need=2500" "total=2500"
-end-1080 = ap (λ rows. getD rows 8 []) starred
+end-1080 = row 8
 
 end-1081 : reportText (answerOf (endAt "pressure=1081")) ≡ sized "stress=108" "need=2502" "total=2502"
-end-1081 = ap (λ rows. getD rows 9 []) starred
+end-1081 = row 9
 
 -- a report that begins with s, as in stress, is no refusal
 not-refused : (a : Answer) (n : ℕ) → getD (reportText a) 0 0 ≡ 115 → written a n ≡ Report n

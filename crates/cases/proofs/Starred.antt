@@ -3,7 +3,8 @@
 use Prim.Native.Nat.{ℕ}
 use Prim.Native.String.{String}
 use mathlib.Core.List.{List, [], _∷_, _++_, map}
-use mathlib.Core.Path.{_≡_, refl}
+use mathlib.Core.Path.{_≡_, refl, ap}
+use lib.ListN.{getD}
 use Rattle.bytes.specs.Bytes.{indexOf, indexAfter}
 use Rattle.tables.specs.DesignStress.{column, designStress}
 use Rattle.root.specs.Root.{ceilDiv, wholeRootBy, leastRoot, leastRootOver}
@@ -146,3 +147,7 @@ unfolding column designStress ceilDiv wholeRootBy leastRoot leastRootOver endpla
     before after valueOf numberOf numbersOf platesOf decimal numberLine reportText lineOf platesLine linesOf
     partOf sheetOf answerOf
 starred = refl
+
+-- so each row by itself, counted from 0
+pub row : (i : ℕ) → getD (map (λ r. worked (r .0)) table) i [] ≡ getD (map (λ r. r .1) table) i []
+row i = ap (λ rows. getD rows i []) starred

@@ -1,4 +1,4 @@
--- A number's digits one by one, and each way in which a text is no number.
+-- A number's digits one by one, and each way in which a text is no number. Assumes nothing.
 use Prim.Native.Nat.{ℕ, _+_, _-_, _*_, _^_, _≤_, _<_}
 use mathlib.Core.Bool.{Bool, true, false, not, _&&_, cond}
 use mathlib.Core.List.{List}

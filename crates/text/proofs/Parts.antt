@@ -1,4 +1,4 @@
--- Parts of a text: the kit's search of a whole text, the bytes that a text begins with, the parts around a byte.
+-- Parts of a text: what it begins with, where a byte is, and what stands around it. Assumes nothing.
 use Prim.Native.Nat.{ℕ, suc, _+_, _-_, _≤_, _<_}
 use mathlib.Core.Bool.{Bool, true, false, and-false}
 use mathlib.Core.List.{List, [], _∷_, _++_}

@@ -1,4 +1,4 @@
--- A line that shows a number is read back as that number, whatever follows it.
+-- A line that shows a number is read back as that number, whatever follows it. Assumes nothing.
 use Prim.Native.Nat.{ℕ, suc, _+_, _-_}
 use mathlib.Core.Bool.{true, false}
 use mathlib.Core.List.{List, [], _∷_, _++_, append-assoc}

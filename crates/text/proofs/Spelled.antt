@@ -1,4 +1,4 @@
--- The decimal of a number, digit by digit, and that it is read back as that number.
+-- The decimal of a number, digit by digit, and that it is read back as that number. Assumes nothing.
 use Prim.Native.Nat.{ℕ, zero, suc, _+_, _-_, _*_, _/_, _%_, _≤_, _<_}
 use mathlib.Core.Bool.{Bool, true, false, cond}
 use mathlib.Core.List.{List, [], _∷_, _++_}
