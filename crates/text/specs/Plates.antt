@@ -12,6 +12,7 @@ use Rattle.text.specs.declared.number.Number.{Number}
 use Rattle.text.specs.declared.number.Number.the-variants.{Value, Malformed}
 use Rattle.text.specs.declared.plates.Plates.{Plates}
 
+-- how many numbers at most
 abbrev pub most : ℕ
 most = 32
 
