@@ -12,11 +12,12 @@ use lib.Dec.{lit≤}
 use lib.ListN.{length, take, drop, set, getD, replicate, drop-of-length-le}
 use lib.Seq.{drop-cons, take-suc-set}
 use Rattle.text.specs.Ascii.{lineFeed}
-use Rattle.text.specs.Line.{after}
+use Rattle.text.specs.Line.{isLine, valueOf, after}
 use Rattle.text.specs.Plates.{held as Plates·held}
+use Rattle.text.specs.declared.number.Number.{Number}
 use Rattle.text.specs.declared.number.Number.the-variants.{Value, Malformed}
 use Rattle.text.proofs.Listed.{zeros-fill}
-use Rattle.sheet.specs.Fields.{Field, fieldOf, fieldsOf, noField}
+use Rattle.sheet.specs.Fields.{Field, lineOf, fieldOf, fieldsOf, noField}
 use Rattle.sheet.specs.Lines.{Lines, fault, given, ahead, platesLine, lastLine, linesOf, places, held}
 
 -- the numbers read so far, before what the rest is read as
@@ -34,6 +35,17 @@ prepend-nothing (fault k) = refl
 prepend-nothing (given ys plates) = refl
 
 -- ---- the fields
+
+-- a line that is there is read, and one that is not is malformed, whatever reads its value
+pub line-read : (key t : List ℕ) (reader : List ℕ → Number) {v : List ℕ} {n : Number} {b : Bool}
+    → b ≡ isLine key t → b ≡ true → v ≡ valueOf key t → n ≡ reader v → n ≡ lineOf key reader t
+unfolding lineOf
+line-read key t reader e h p q = rw (← e, h, ← p) q
+
+pub line-not : (key t : List ℕ) (reader : List ℕ → Number) {b : Bool} → b ≡ isLine key t → b ≡ false
+    → Malformed ≡ lineOf key reader t
+unfolding lineOf
+line-not key t reader e h = rw (← e, h)
 
 -- a sheet's numbers have room
 pub fields-fit : (blind : Bool) → length (fieldsOf blind) ≤ places

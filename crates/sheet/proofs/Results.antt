@@ -35,15 +35,11 @@ space-front text space h = laid-front (reportText (answerOf text)) space h
 
 -- ---- document 01's numbers: those of the answer where its report fits, else 15 and the length needed
 
-written-cause : (a : Answer) (n : ℕ) → causeOf (written a n) ≡ Answer·causeOf a
-written-cause (Endplate f plate) n = refl
-written-cause (BlindFlange f plate) n = refl
-written-cause (Refused cause figure) n = refl
-
-written-figure : (a : Answer) (n : ℕ) → figureOf (written a n) ≡ Answer·figureOf a
-written-figure (Endplate f plate) n = refl
-written-figure (BlindFlange f plate) n = refl
-written-figure (Refused cause figure) n = refl
+written-numbers : (a : Answer) (n : ℕ)
+    → (causeOf (written a n) ≡ Answer·causeOf a) × (figureOf (written a n) ≡ Answer·figureOf a)
+written-numbers (Endplate f plate) n = (refl, refl)
+written-numbers (BlindFlange f plate) n = (refl, refl)
+written-numbers (Refused cause figure) n = (refl, refl)
 
 module _ (text space : List ℕ) where
   abbrev size : ℕ
@@ -53,8 +49,7 @@ module _ (text space : List ℕ) where
       → (causeOf (outcomeOf text space) ≡ Answer·causeOf (answerOf text))
       × (figureOf (outcomeOf text space) ≡ Answer·figureOf (answerOf text))
   unfolding outcomeOf
-  outcome-fits h =
-      rw (le-leb size (length space) h) (written-cause (answerOf text) size, written-figure (answerOf text) size)
+  outcome-fits h = rw (le-leb size (length space) h) (written-numbers (answerOf text) size)
 
   pub outcome-short : length space < size
       → (causeOf (outcomeOf text space) ≡ 15) × (figureOf (outcomeOf text space) ≡ size)

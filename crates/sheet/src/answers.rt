@@ -1,10 +1,10 @@
 // The answer to a sheet: cause 1 with the line at fault, or what the rules say of its numbers.
+use crate::fields::is_word;
 use crate::lines::read_lines;
 use rules::Answer;
 use rules::BlindFlangeSheet;
 use rules::EndplateSheet;
 use text::is_line;
-use text::is_text;
 use text::next_line;
 use text::value;
 ghost use mathlib.Core.Path.{_≡_};
@@ -51,7 +51,7 @@ fn blind_flange_sheet(v: [u32; 14]) -> BlindFlangeSheet
 fn is_part(text: &[u8], word: &[u8]) -> bool
     ensures { λ r. ⌜ r ≡ isPart (now (word .entry)) (now (text .entry)) ⌝ }
 {
-    is_line(text, b"part") & is_text(value(text, b"part"), word)
+    is_line(text, b"part") & is_word(value(text, b"part"), word)
 }
 
 // The answer to a sheet of a blind flange, or else of an endplate, by its lines from the second on.

@@ -1,4 +1,4 @@
--- Laws that the proofs of the functions cite. For other crates: Listed, Spelled and RoundTrip.
+-- Laws that the proofs of the functions cite. For other crates: Parts, Listed, Spelled and RoundTrip.
 pub mod Parts
 pub mod Digits
 pub mod Listed

@@ -1,18 +1,17 @@
 -- Parts of a text: what it begins with, where a byte is, and what stands around it. Assumes nothing.
-use Prim.Native.Nat.{ℕ, suc, _+_, _-_, _≤_, _<_}
-use mathlib.Core.Bool.{Bool, true, false, and-false}
-use mathlib.Core.List.{List, [], _∷_, _++_}
-use mathlib.Core.Path.{_≡_, refl}
+use Prim.Native.Nat.{ℕ, suc, _+_, _-_, _≤_}
+use mathlib.Core.Bool.{Bool, true, false, _&&_, and-false, false≢true}
+use mathlib.Core.List.{List, [], _∷_, _++_, append-nil}
+use mathlib.Core.Path.{_≡_, refl, sym, ap, _∙_}
 use native.Mathlib.Nat.{le-refl}
-use native.Mathlib.Numerals.{add-one}
 use native.Mathlib.Omega.{arith}
-use borrow.Author.Tests.{eq-eqb, ne-eqb}
+use borrow.Author.Tests.{eqb-true, eq-eqb}
 use lib.Dec.{eqb}
-use lib.ListN.{length, take, drop, getD, length-drop, drop-of-length-le, List·getD-eq-default}
-use lib.Seq.{take-all, drop-cons}
+use lib.ListN.{length, take, drop, length-drop, drop-of-length-le, take-append-drop, List·getD-eq-default}
+use lib.Seq.{take-all}
 use Rattle.bytes.specs.Bytes.{slice, indexOf, indexAfter}
 use Rattle.text.specs.Ascii.{lineFeed}
-use Rattle.text.specs.Line.{begins, isLine, after, valueOf}
+use Rattle.text.specs.Line.{begins, same, isLine, after, valueOf}
 
 -- the slice of all of t is t
 pub slice-all : (t : List ℕ) → slice 0 (length t) t ≡ t
@@ -37,23 +36,53 @@ value-none key t end e h =
     let b : indexOf lineFeed t - (length key + 1) ≡ 0 = omega arith in
     rw (a, b)
 
--- ---- what a text begins with, byte by byte
+-- ---- what a text begins with, as a test and as an equation
 
-pub begins-short : (s t : List ℕ) → length t < length s → begins s t ≡ false
-begins-short [] t h = absurd (omega arith)
-begins-short (b ∷ s) [] h = refl
-begins-short (b ∷ s) (x ∷ t) h = rw (begins-short s t (omega arith)) (and-false (eqb x b))
+pub begins-append : (s t : List ℕ) → begins s (s ++ t) ≡ true
+begins-append [] t = refl
+begins-append (b ∷ s) t = rw (eq-eqb b b refl) (begins-append s t)
 
-module _ (s t : List ℕ) (i : ℕ) (h : i < length s) (k : i < length t) where
-  pub begins-same : getD t i 0 ≡ getD s i 0
-      → begins (drop i s) (drop i t) ≡ begins (drop (i + 1) s) (drop (i + 1) t)
-  begins-same e = rw (drop-cons s i 0 h, drop-cons t i 0 k, eq-eqb (getD t i 0) (getD s i 0) e, add-one)
+take-begins : (s t : List ℕ) → take (length s) t ≡ s → begins s t ≡ true
+take-begins s t e =
+    let whole : t ≡ s ++ drop (length s) t =
+    sym (take-append-drop (length s) t) ∙ ap (λ (p : List ℕ). p ++ drop (length s) t) e in
+    ap (begins s) whole ∙ begins-append s (drop (length s) t)
 
-  pub begins-other : (getD t i 0 ≡ getD s i 0 → ⊥) → begins (drop i s) (drop i t) ≡ false
-  begins-other n = rw (drop-cons s i 0 h, drop-cons t i 0 k, ne-eqb (getD t i 0) (getD s i 0) n)
+begins-take : (s t : List ℕ) → begins s t ≡ true → take (length s) t ≡ s
+begins-take [] t e = refl
+begins-take (b ∷ s) [] e = absurd (false≢true e)
+begins-take (b ∷ s) (x ∷ t) e = go (eqb x b) refl e (begins-take s t)
+  where
+    go : (same : Bool) → eqb x b ≡ same → (same && begins s t) ≡ true
+        → (begins s t ≡ true → take (length s) t ≡ s) → x ∷ take (length s) t ≡ b ∷ s
+    go true h q rest = rw (eqb-true x b h, rest q)
+    go false h q rest = absurd (false≢true q)
 
-pub begins-all : (s t : List ℕ) (i : ℕ) → length s ≤ i → begins (drop i s) (drop i t) ≡ true
-begins-all s t i h = rw (drop-of-length-le s h)
+-- two tests that hold together are one
+told : (r b : Bool) → (r ≡ true → b ≡ true) → (b ≡ true → r ≡ true) → r ≡ b
+told true b f g = sym (f refl)
+told false true f g = g refl
+told false false f g = refl
+
+-- the kit's comparison of a text's front, and of a whole text, with the bytes s
+pub front-same : (s t : List ℕ) (r : Bool) → (r ≡ true → take (length s) t ≡ s) × (take (length s) t ≡ s → r ≡ true)
+    → r ≡ begins s t
+front-same s t r h = told r (begins s t) (λ e. take-begins s t (h .0 e)) (λ e. h .1 (begins-take s t e))
+
+pub text-same : (s t : List ℕ) (r : Bool) → (r ≡ true → t ≡ s) × (t ≡ s → r ≡ true) → r ≡ same s t
+text-same s t r h =
+    told r (same s t) (λ e. equal-same (h .0 e)) (λ e. h .1 (same-equal (eqb (length t) (length s)) refl e))
+  where
+    equal-same : t ≡ s → same s t ≡ true
+    equal-same e =
+        rw (e, eq-eqb (length s) (length s) refl)
+        (ap (begins s) (sym (append-nil s)) ∙ begins-append s [])
+
+    same-equal : (sized : Bool) → eqb (length t) (length s) ≡ sized → (sized && begins s t) ≡ true → t ≡ s
+    same-equal true n e =
+        let size = eqb-true (length t) (length s) n in
+        sym (take-all (length s) t (omega (arith, size))) ∙ begins-take s t e
+    same-equal false n e = absurd (false≢true e)
 
 -- a text no longer than the key is no line of it: it has no =
 pub line-short : (key t : List ℕ) → length t ≤ length key → isLine key t ≡ false

@@ -2,23 +2,19 @@
 use Prim.Native.Nat.{ℕ, suc, _+_, _-_}
 use mathlib.Core.Bool.{true, false}
 use mathlib.Core.List.{List, [], _∷_, _++_, append-assoc}
-use mathlib.Core.Path.{_≡_, refl, sym, _∙_}
+use mathlib.Core.Path.{_≡_, sym, _∙_}
 use native.Mathlib.Omega.{arith}
-use borrow.Author.Tests.{eq-eqb, ne-eqb, lt-ltb}
+use borrow.Author.Tests.{ne-eqb, lt-ltb}
 use lib.ListN.{length, length-append}
 use lib.Seq.{drop-append-seam, drop-append-add, take-append-seam, getD-append-seam}
 use Rattle.bytes.specs.Bytes.{indexOf, indexAfter}
 use Rattle.text.specs.Ascii.{equals, lineFeed}
-use Rattle.text.specs.Line.{begins, holds, after, isLine, valueOf}
+use Rattle.text.specs.Line.{holds, after, isLine, valueOf}
 use Rattle.text.specs.Decimal.{decimal, numberLine}
 use Rattle.text.specs.Printed.{printedWithin}
 use Rattle.text.specs.declared.number.Number.the-variants.{Value}
-use Rattle.text.proofs.Parts.{Lacks, index-append}
+use Rattle.text.proofs.Parts.{begins-append, Lacks, index-append}
 use Rattle.text.proofs.Spelled.{decimal-reads, decimal-some, decimal-line}
-
-begins-append : (s t : List ℕ) → begins s (s ++ t) ≡ true
-begins-append [] t = refl
-begins-append (b ∷ s) t = rw (eq-eqb b b refl) (begins-append s t)
 
 module _ (key rest : List ℕ) (n : ℕ) (k : Lacks lineFeed key) where
   abbrev start : List ℕ

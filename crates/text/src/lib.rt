@@ -4,7 +4,6 @@ mod number;
 mod plates;
 
 pub use line::is_line;
-pub use line::is_text;
 pub use line::next_line;
 pub use line::value;
 pub use number::Number;

@@ -4,7 +4,7 @@ ghost use Prim.Native.Nat.{_≤_};
 ghost use lib.ListN.{length};
 ghost use Rattle.bytes.specs.Bytes.{indexOf};
 ghost use Rattle.text.specs.Ascii.{lineFeed};
-ghost use Rattle.text.specs.Line.{begins, same, holds, before, after, isLine, valueOf};
+ghost use Rattle.text.specs.Line.{holds, before, after, isLine, valueOf};
 
 const LINE_FEED: u8 = b'\n';
 
@@ -43,31 +43,6 @@ pub(crate) fn part_after<'a>(t: &'a [u8], b: u8) -> &'a [u8]
     &t[end..]
 }
 
-// Whether t begins with the bytes of s.
-fn starts(t: &[u8], s: &[u8]) -> bool
-    ensures { λ r. ⌜ r ≡ begins (now (s .entry)) (now (t .entry)) ⌝ }
-{
-    let size = s.len();
-    if t.len() < size {
-        return false;
-    }
-    let mut i = 0;
-    while i < size {
-        if t[i] != s[i] {
-            return false;
-        }
-        i += 1;
-    }
-    true
-}
-
-// Whether t is the bytes of s, and no more.
-pub fn is_text(t: &[u8], s: &[u8]) -> bool
-    ensures { λ r. ⌜ r ≡ same (now (s .entry)) (now (t .entry)) ⌝ }
-{
-    (t.len() == s.len()) & starts(t, s)
-}
-
 // Whether t begins with a line of this key.
 pub fn is_line(t: &[u8], key: &[u8]) -> bool
     ensures { λ r. ⌜ r ≡ isLine (now (key .entry)) (now (t .entry)) ⌝ }
@@ -76,7 +51,7 @@ pub fn is_line(t: &[u8], key: &[u8]) -> bool
     if t.len() <= size {
         return false;
     }
-    starts(t, key) & (t[size] == EQUALS) & has(t, LINE_FEED)
+    check::same(&t[..size], key) & (t[size] == EQUALS) & has(t, LINE_FEED)
 }
 
 // The value of the line that t begins with: the part of t between the `=` after the key and the LF.

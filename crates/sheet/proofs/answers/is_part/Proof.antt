@@ -4,7 +4,7 @@ use Rattle.sheet.proofs.answers.is_part.Statement.{statement}
 use Rattle.sheet.proofs.answers.is_part.Tie as tie
 
 returns : tie.Need-returns
-returns c = rw (c .before .before .before .is-line .ensures, c .is-text .ensures, c .before .value .ensures)
+returns c = rw (c .before .before .before .is-line .ensures, c .is-word .ensures, c .before .value .ensures)
 
 pub is-part-spec : {M : Type 1} → statement M
 is-part-spec =

@@ -4,15 +4,15 @@ use Rattle.sheet.proofs.fields.read_form.Statement.{statement}
 use Rattle.sheet.proofs.fields.read_form.Tie as tie
 
 returns : tie.Need-returns
-returns c = rw (← c .before .is-text .ensures, c .if1 .taken)
+returns c = rw (← c .before .is-word .ensures, c .if1 .taken)
 
 returns-2 : tie.Need-returns-2
 returns-2 c =
     let one = c .before .before .before in
     rw (
-      ← one .before .is-text .ensures,
+      ← one .before .is-word .ensures,
       one .if1 .left,
-      ← c .before .is-text2 .ensures,
+      ← c .before .is-word2 .ensures,
       c .if2 .taken,
     )
 
@@ -21,11 +21,11 @@ returns-3 c =
     let two = c .before .before .before in
     let one = two .before .before .before in
     rw (
-      ← one .before .is-text .ensures,
+      ← one .before .is-word .ensures,
       one .if1 .left,
-      ← two .before .is-text2 .ensures,
+      ← two .before .is-word2 .ensures,
       two .if2 .left,
-      ← c .before .is-text3 .ensures,
+      ← c .before .is-word3 .ensures,
       c .if3 .taken,
     )
 
@@ -34,11 +34,11 @@ returns-4 c =
     let two = c .before .before .before in
     let one = two .before .before .before in
     rw (
-      ← one .before .is-text .ensures,
+      ← one .before .is-word .ensures,
       one .if1 .left,
-      ← two .before .is-text2 .ensures,
+      ← two .before .is-word2 .ensures,
       two .if2 .left,
-      ← c .before .is-text3 .ensures,
+      ← c .before .is-word3 .ensures,
       c .if3 .left,
     )
 
