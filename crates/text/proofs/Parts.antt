@@ -7,7 +7,7 @@ use native.Mathlib.Nat.{le-refl}
 use native.Mathlib.Omega.{arith}
 use borrow.Author.Tests.{eqb-true, eq-eqb}
 use lib.Dec.{eqb}
-use lib.ListN.{length, take, drop, length-drop, drop-of-length-le, take-append-drop, List·getD-eq-default}
+use lib.ListN.{length, take, drop, drop-of-length-le, take-append-drop, List·getD-eq-default}
 use lib.Seq.{take-all}
 use Rattle.bytes.specs.Bytes.{slice, indexOf, indexAfter}
 use Rattle.text.specs.Ascii.{lineFeed}
@@ -17,10 +17,6 @@ use Rattle.text.specs.Line.{begins, same, isLine, after, valueOf}
 pub slice-all : (t : List ℕ) → slice 0 (length t) t ≡ t
 unfolding slice
 slice-all t = take-all (length t) t (le-refl _)
-
--- `&t[a..]` is a drop
-pub from : (a : ℕ) (t : List ℕ) → take (length t - a) (drop a t) ≡ drop a t
-from a t = take-all (length t - a) (drop a t) (rw length-drop (omega arith))
 
 -- nothing stands after a byte that t does not have
 pub after-none : (b : ℕ) (t : List ℕ) → length t ≤ indexOf b t → drop (indexOf b t) t ≡ after b t
