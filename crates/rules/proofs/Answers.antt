@@ -5,50 +5,57 @@ use mathlib.Core.Logic.{_≢_}
 use mathlib.Core.Bool.{Bool, true, false, cond}
 use mathlib.Core.List.{List, [], _∷_}
 use Prim.Native.Nat.{ℕ}
-use borrow.Author.Tests.{eqb-true, ne-eqb}
+use native.Mathlib.Omega.{arith}
+use borrow.Author.Tests.{eqb-true, eqb-false, ne-eqb}
 use lib.Dec.{eqb}
 use Rattle.rules.specs.Causes.{any, firstCause, endplateCauses}
 use Rattle.rules.specs.Causes.{blindFlangeLimits, boltsOverloaded, blindFlangeCauses}
 use Rattle.rules.specs.Figures.{endplateFigures, blindFlangeFigures}
 use Rattle.rules.specs.Plates.{smallestServing}
-use Rattle.rules.specs.Answer.{refusedOr, withPlate, endplateAnswer, blindFlangeAnswer}
-use Rattle.rules.specs.Exact.{EndplateExact, BlindFlangeExact}
+use Rattle.rules.specs.Answer.{refusedOr, endplateSizing, blindFlangeSizing, totalOf, withPlate, fromPlates}
+use Rattle.rules.specs.Answer.{endplateAnswer, blindFlangeAnswer, causeOf, figureAt}
+use Rattle.rules.specs.Exact.{EndplateThicknessExact, EndplateExact, EndplateFigureExact}
+use Rattle.rules.specs.Exact.{ThicknessExact, EdgeExact, BlindFlangeExact, BlindFlangeFigureExact}
 use Rattle.rules.specs.declared.EndplateSheet.{EndplateSheet}
 use Rattle.rules.specs.declared.EndplateFigures.{EndplateFigures}
 use Rattle.rules.specs.declared.BlindFlangeSheet.{BlindFlangeSheet}
 use Rattle.rules.specs.declared.BlindFlangeFigures.{BlindFlangeFigures}
 use Rattle.rules.specs.declared.plates.Choice.{Choice}
 use Rattle.rules.specs.declared.plates.Choice.the-variants.{Plate, NoPlate}
+use Rattle.rules.specs.declared.sizing.Sizing.{Sizing}
+use Rattle.rules.specs.declared.sizing.Sizing.the-variants.{Endplate as Sizing·Endplate}
+use Rattle.rules.specs.declared.sizing.Sizing.the-variants.{BlindFlange as Sizing·BlindFlange}
+use Rattle.rules.specs.declared.sizing.Sizing.the-variants.{Refused as Sizing·Refused}
 use Rattle.rules.specs.declared.Answer.{Answer}
 use Rattle.rules.specs.declared.Answer.the-variants.{Endplate, BlindFlange, Refused}
 use Rattle.rules.proofs.Order.{in-turn}
 use Rattle.rules.proofs.Exactness.{endplate-least, thickness-near, edge-near}
 
-refused : (cause : ℕ) (rest : Answer) → cause ≢ 0 → Refused cause 0 ≡ refusedOr cause rest
-refused cause rest h = simp (ne-eqb cause 0 h)
+refused : (cause : ℕ) (sized : Sizing) → cause ≢ 0 → Sizing·Refused cause ≡ refusedOr cause sized
+refused cause sized h = simp (ne-eqb cause 0 h)
 
--- a property of answers that every refusal has holds of the whole, if of what follows where no cause applies
+-- what was worked step by step is the answer from the plates
+pub chosen :
+    {sizing z : Sizing} {total : ℕ} {choice : Choice} {answer : Answer} (plates : List ℕ) →
+    sizing ≡ z →
+    total ≡ totalOf sizing →
+    choice ≡ smallestServing total plates →
+    answer ≡ withPlate sizing choice →
+    answer ≡ fromPlates z plates
+chosen plates e t c a = rw (a, c, t, e)
+
+-- a property of answers that every refusal has holds of the whole, if of what is sized where no cause applies
 by-cause :
-    (P : Answer → Type 0) →
-    ((cause figure : ℕ) → P (Refused cause figure)) →
-    (cause : ℕ) (rest : Answer) →
-    (cause ≡ 0 → P rest) →
-    P (refusedOr cause rest)
-by-cause P r cause rest h = by-test (eqb cause 0) refl
+    (P : Sizing → Type 0) →
+    ((cause : ℕ) → cause ≢ 0 → P (Sizing·Refused cause)) →
+    (cause : ℕ) (sized : Sizing) →
+    (cause ≡ 0 → P sized) →
+    P (refusedOr cause sized)
+by-cause P r cause sized h = by-test (eqb cause 0) refl
   where
-    by-test : (b : Bool) → eqb cause 0 ≡ b → P (cond b rest (Refused cause 0))
+    by-test : (b : Bool) → eqb cause 0 ≡ b → P (cond b sized (Sizing·Refused cause))
     by-test true e = h (eqb-true cause 0 e)
-    by-test false e = r cause 0
-
-by-choice :
-    (P : Answer → Type 0) →
-    ((cause figure : ℕ) → P (Refused cause figure)) →
-    (sized : ℕ → Answer) (total : ℕ) →
-    ((plate : ℕ) → P (sized plate)) →
-    (choice : Choice) →
-    P (withPlate sized total choice)
-by-choice P r sized total h (Plate plate) = h plate
-by-choice P r sized total h NoPlate = r 14 total
+    by-test false e = r cause (eqb-false cause 0 e)
 
 -- an answer that is the definition's has what the definition's has
 along : (P : Answer → Type 0) {r answer : Answer} → P answer → r ≡ answer → (r ≡ answer) × P r
@@ -56,37 +63,61 @@ along P p e = (e, subst P (sym e) p)
 
 -- ---- endplates
 
-module _ (s : EndplateSheet) (plates : List ℕ) where
+module _ (s : EndplateSheet) where
   pub endplate-refused :
-      {cause : ℕ} → cause ≡ firstCause (endplateCauses s) → cause ≢ 0 → Refused cause 0 ≡ endplateAnswer s plates
-  unfolding endplateAnswer
+      {cause : ℕ} → cause ≡ firstCause (endplateCauses s) → cause ≢ 0 → Sizing·Refused cause ≡ endplateSizing s
+  unfolding endplateSizing
   endplate-refused e h = rw (← e) (refused _ _ h)
 
   pub endplate-sized :
-      {f : EndplateFigures} {choice : Choice} →
+      {f : EndplateFigures} →
       0 ≡ firstCause (endplateCauses s) →
       f ≡ endplateFigures s →
-      choice ≡ smallestServing (f .total) plates →
-      withPlate (Endplate f) (f .total) choice ≡ endplateAnswer s plates
-  unfolding endplateAnswer
-  endplate-sized e q p = rw (p, q, ← e)
+      Sizing·Endplate f ≡ endplateSizing s
+  unfolding endplateSizing
+  endplate-sized e q = rw (q, ← e)
 
-  pub endplate-exact : EndplateExact s (endplateAnswer s plates)
-  unfolding endplateAnswer
-  endplate-exact =
-      let f = endplateFigures s in
-      by-cause (EndplateExact s) (λ cause figure. tt) _ _
-      (λ e. by-choice (EndplateExact s) (λ cause figure. tt) (Endplate f) (f .total) (λ plate. endplate-least s e)
-      (smallestServing (f .total) plates))
+  -- whatever the choice, the need is exact, and at its place
+  abbrev Promised : Answer → Type 0
+  Promised answer = EndplateExact s answer × (causeOf answer ≡ 0 → EndplateThicknessExact s (figureAt answer 3))
 
-  -- the two clauses of the contract
-  pub endplate-promised :
-      {r : Answer} → r ≡ endplateAnswer s plates → (r ≡ endplateAnswer s plates) × EndplateExact s r
-  endplate-promised = along (EndplateExact s) endplate-exact
+  by-choice :
+      (f : EndplateFigures) →
+      EndplateThicknessExact s (f .thickness) →
+      (choice : Choice) →
+      Promised (withPlate (Sizing·Endplate f) choice)
+  unfolding figureAt
+  by-choice f h (Plate plate) = (h, λ z. h)
+  by-choice f h NoPlate = (tt, λ z. absurd (omega (arith, z)))
+
+  sized-exact : (choice : Choice) → Promised (withPlate (endplateSizing s) choice)
+  unfolding endplateSizing
+  sized-exact choice =
+      by-cause (λ z. Promised (withPlate z choice)) (λ cause h. (tt, λ z. absurd (h z))) _ _
+      (λ e. by-choice _ (endplate-least s e) choice)
+
+  module _ (plates : List ℕ) where
+    pub endplate-exact : EndplateExact s (endplateAnswer s plates)
+    unfolding endplateAnswer
+    endplate-exact = sized-exact _ .0
+
+    -- the two clauses of the contract
+    pub endplate-promised :
+        {r : Answer} → r ≡ fromPlates (endplateSizing s) plates → (r ≡ endplateAnswer s plates) × EndplateExact s r
+    unfolding endplateAnswer
+    endplate-promised = along (EndplateExact s) endplate-exact
+
+    -- and of the one by place
+    pub endplate-placed :
+        {r place : ℕ} →
+        r ≡ figureAt (fromPlates (endplateSizing s) plates) place →
+        (r ≡ figureAt (endplateAnswer s plates) place) × EndplateFigureExact s (endplateAnswer s plates) place r
+    unfolding endplateAnswer
+    endplate-placed e = (e, λ z p. rw (e, p) (sized-exact _ .1 z))
 
 -- ---- blind flanges
 
-module _ (s : BlindFlangeSheet) (plates : List ℕ) where
+module _ (s : BlindFlangeSheet) where
   -- the first cause, from that of the limits and the bolt check
   first :
       let limit = firstCause (blindFlangeLimits s) in
@@ -95,15 +126,15 @@ module _ (s : BlindFlangeSheet) (plates : List ℕ) where
   first = in-turn (blindFlangeLimits s) ((13, boltsOverloaded s) ∷ []) tt
 
   pub flange-refused :
-      {cause : ℕ} → cause ≡ firstCause (blindFlangeLimits s) → cause ≢ 0 → Refused cause 0 ≡ blindFlangeAnswer s plates
-  unfolding blindFlangeAnswer
+      {cause : ℕ} → cause ≡ firstCause (blindFlangeLimits s) → cause ≢ 0 → Sizing·Refused cause ≡ blindFlangeSizing s
+  unfolding blindFlangeSizing
   flange-refused {cause} e h =
       let k : cause ≡ firstCause (blindFlangeCauses s) = rw (first, ← e, ne-eqb cause 0 h) in
       rw (← k) (refused _ _ h)
 
   pub flange-overloaded :
-      0 ≡ firstCause (blindFlangeLimits s) → any (boltsOverloaded s) ≡ true → Refused 13 0 ≡ blindFlangeAnswer s plates
-  unfolding blindFlangeAnswer
+      0 ≡ firstCause (blindFlangeLimits s) → any (boltsOverloaded s) ≡ true → Sizing·Refused 13 ≡ blindFlangeSizing s
+  unfolding blindFlangeSizing
   flange-overloaded e h =
       let k : 13 ≡ firstCause (blindFlangeCauses s) = rw (first, ← e, h) in
       rw (← k)
@@ -113,14 +144,13 @@ module _ (s : BlindFlangeSheet) (plates : List ℕ) where
   accepted e h = rw (first, e, h)
 
   pub flange-sized :
-      {f : BlindFlangeFigures} {choice : Choice} →
+      {f : BlindFlangeFigures} →
       0 ≡ firstCause (blindFlangeLimits s) →
       any (boltsOverloaded s) ≡ false →
       f ≡ blindFlangeFigures s →
-      choice ≡ smallestServing (f .total) plates →
-      withPlate (BlindFlange f) (f .total) choice ≡ blindFlangeAnswer s plates
-  unfolding blindFlangeAnswer
-  flange-sized e h q p = rw (p, q, ← accepted (sym e) h)
+      Sizing·BlindFlange f ≡ blindFlangeSizing s
+  unfolding blindFlangeSizing
+  flange-sized e h q = rw (q, ← accepted (sym e) h)
 
   -- what is accepted is within the limits
   within : firstCause (blindFlangeCauses s) ≡ 0 → firstCause (blindFlangeLimits s) ≡ 0
@@ -134,16 +164,46 @@ module _ (s : BlindFlangeSheet) (plates : List ℕ) where
       by-test true t z = eqb-true _ _ t
       by-test false t z = z
 
-  pub flange-exact : BlindFlangeExact s (blindFlangeAnswer s plates)
-  unfolding blindFlangeAnswer
-  flange-exact =
-      let f = blindFlangeFigures s in
-      by-cause (BlindFlangeExact s) (λ cause figure. tt) _ _
-      (λ e. by-choice (BlindFlangeExact s) (λ cause figure. tt) (BlindFlange f) (f .total)
-      (λ plate. (thickness-near s (within e), edge-near s (within e)))
-      (smallestServing (f .total) plates))
+  -- whatever the choice, the need and the edge are exact, and at their places
+  abbrev FlangePromised : Answer → Type 0
+  FlangePromised answer =
+      BlindFlangeExact s answer
+      × (causeOf answer ≡ 0 → ThicknessExact s (figureAt answer 9) × EdgeExact s (figureAt answer 10))
 
-  -- the two clauses of the contract
-  pub flange-promised :
-      {r : Answer} → r ≡ blindFlangeAnswer s plates → (r ≡ blindFlangeAnswer s plates) × BlindFlangeExact s r
-  flange-promised = along (BlindFlangeExact s) flange-exact
+  by-flange-choice :
+      (f : BlindFlangeFigures) →
+      ThicknessExact s (f .thickness) × EdgeExact s (f .«edge_thickness») →
+      (choice : Choice) →
+      FlangePromised (withPlate (Sizing·BlindFlange f) choice)
+  unfolding figureAt
+  by-flange-choice f h (Plate plate) = (h, λ z. h)
+  by-flange-choice f h NoPlate = (tt, λ z. absurd (omega (arith, z)))
+
+  flange-sized-exact : (choice : Choice) → FlangePromised (withPlate (blindFlangeSizing s) choice)
+  unfolding blindFlangeSizing
+  flange-sized-exact choice =
+      by-cause (λ z. FlangePromised (withPlate z choice)) (λ cause h. (tt, λ z. absurd (h z))) _ _
+      (λ e. by-flange-choice _ (thickness-near s (within e), edge-near s (within e)) choice)
+
+  module _ (plates : List ℕ) where
+    pub flange-exact : BlindFlangeExact s (blindFlangeAnswer s plates)
+    unfolding blindFlangeAnswer
+    flange-exact = flange-sized-exact _ .0
+
+    -- the two clauses of the contract
+    pub flange-promised :
+        {r : Answer} →
+        r ≡ fromPlates (blindFlangeSizing s) plates →
+        (r ≡ blindFlangeAnswer s plates) × BlindFlangeExact s r
+    unfolding blindFlangeAnswer
+    flange-promised = along (BlindFlangeExact s) flange-exact
+
+    -- and of the one by place
+    pub flange-placed :
+        {r place : ℕ} →
+        r ≡ figureAt (fromPlates (blindFlangeSizing s) plates) place →
+        (r ≡ figureAt (blindFlangeAnswer s plates) place)
+        × BlindFlangeFigureExact s (blindFlangeAnswer s plates) place r
+    unfolding blindFlangeAnswer
+    flange-placed e =
+        (e, λ z. (λ p. rw (e, p) (flange-sized-exact _ .1 z .0), λ p. rw (e, p) (flange-sized-exact _ .1 z .1)))

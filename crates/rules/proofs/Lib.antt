@@ -8,6 +8,7 @@ pub mod Bounds
 pub mod FlangeBounds
 pub mod PastPlaces
 pub mod Folds
+pub mod PlateBytes
 pub mod RoundedLoads
 pub mod Accuracy
 pub mod Exactness

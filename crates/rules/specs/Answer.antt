@@ -11,29 +11,48 @@ use Rattle.rules.specs.declared.EndplateSheet.{EndplateSheet}
 use Rattle.rules.specs.declared.BlindFlangeSheet.{BlindFlangeSheet}
 use Rattle.rules.specs.declared.plates.Choice.{Choice}
 use Rattle.rules.specs.declared.plates.Choice.the-variants.{Plate, NoPlate}
+use Rattle.rules.specs.declared.sizing.Sizing.{Sizing}
+use Rattle.rules.specs.declared.sizing.Sizing.the-variants.{Endplate as Sizing·Endplate}
+use Rattle.rules.specs.declared.sizing.Sizing.the-variants.{BlindFlange as Sizing·BlindFlange}
+use Rattle.rules.specs.declared.sizing.Sizing.the-variants.{Refused as Sizing·Refused}
 use Rattle.rules.specs.declared.Answer.{Answer}
 use Rattle.rules.specs.declared.Answer.the-variants.{Endplate, BlindFlange, Refused}
 
--- a refusal by the first cause that applies, with the figure 0; where none applies, what follows
-abbrev pub refusedOr : ℕ → Answer → Answer
-refusedOr cause rest = cond (eqb cause 0) rest (Refused cause 0)
+-- ---- a part's size, before its plate is chosen; or the first cause that applies
 
--- 14: no listed plate serves, with the total as its figure
-abbrev pub withPlate : (ℕ → Answer) → ℕ → Choice → Answer
-withPlate sized total (Plate plate) = sized plate
-withPlate sized total NoPlate = Refused 14 total
+abbrev pub refusedOr : ℕ → Sizing → Sizing
+refusedOr cause sized = cond (eqb cause 0) sized (Sizing·Refused cause)
+
+unfoldable pub endplateSizing : EndplateSheet → Sizing
+endplateSizing s = refusedOr (firstCause (endplateCauses s)) (Sizing·Endplate (endplateFigures s))
+
+unfoldable pub blindFlangeSizing : BlindFlangeSheet → Sizing
+blindFlangeSizing s = refusedOr (firstCause (blindFlangeCauses s)) (Sizing·BlindFlange (blindFlangeFigures s))
+
+-- total; what is refused has none
+abbrev pub totalOf : Sizing → ℕ
+totalOf (Sizing·Endplate f) = f .total
+totalOf (Sizing·BlindFlange f) = f .total
+totalOf (Sizing·Refused cause) = 0
+
+-- ---- the answer, with the plate chosen from a list
+
+-- 14: no listed plate serves, with the total as its figure; every earlier cause has the figure 0
+abbrev pub withPlate : Sizing → Choice → Answer
+withPlate (Sizing·Endplate f) (Plate plate) = Endplate f plate
+withPlate (Sizing·Endplate f) NoPlate = Refused 14 (f .total)
+withPlate (Sizing·BlindFlange f) (Plate plate) = BlindFlange f plate
+withPlate (Sizing·BlindFlange f) NoPlate = Refused 14 (f .total)
+withPlate (Sizing·Refused cause) choice = Refused cause 0
+
+abbrev pub fromPlates : Sizing → List ℕ → Answer
+fromPlates sizing plates = withPlate sizing (smallestServing (totalOf sizing) plates)
 
 unfoldable pub endplateAnswer : EndplateSheet → List ℕ → Answer
-endplateAnswer s plates =
-    let f = endplateFigures s in
-    refusedOr (firstCause (endplateCauses s))
-    (withPlate (Endplate f) (f .total) (smallestServing (f .total) plates))
+endplateAnswer s plates = fromPlates (endplateSizing s) plates
 
 unfoldable pub blindFlangeAnswer : BlindFlangeSheet → List ℕ → Answer
-blindFlangeAnswer s plates =
-    let f = blindFlangeFigures s in
-    refusedOr (firstCause (blindFlangeCauses s))
-    (withPlate (BlindFlange f) (f .total) (smallestServing (f .total) plates))
+blindFlangeAnswer s plates = fromPlates (blindFlangeSizing s) plates
 
 -- ---- an answer in document 01's numbers
 

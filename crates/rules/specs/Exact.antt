@@ -1,5 +1,6 @@
 -- Demand 3: the exact inequalities of document 01, on whole numbers, and how near to them a thickness is.
 use Prim.Native.Nat.{ℕ, _+_, _-_, _*_, _^_, _≤_}
+use mathlib.Core.Path.{_≡_}
 use Rattle.tables.specs.DesignStress.{designStress}
 use Rattle.root.specs.Least.{Least}
 use Rattle.rules.specs.Endplate.{endplateStress, formFactor}
@@ -7,6 +8,7 @@ use Rattle.rules.specs.Gasket.{effectiveWidth, reactionDiameter}
 use Rattle.rules.specs.Loads.{exactOperatingLoad, exactSeatingLoad, exactFlangeLoad}
 use Rattle.rules.specs.Bolts.{boltArea}
 use Rattle.rules.specs.Figures.{ambient}
+use Rattle.rules.specs.Answer.{causeOf}
 use Rattle.rules.specs.declared.EndplateSheet.{EndplateSheet}
 use Rattle.rules.specs.declared.BlindFlangeSheet.{BlindFlangeSheet}
 use Rattle.rules.specs.declared.Answer.{Answer}
@@ -47,6 +49,10 @@ EndplateExact s (Endplate f plate) = EndplateThicknessExact s (f .thickness)
 EndplateExact s (BlindFlange f plate) = ⊥
 EndplateExact s (Refused cause figure) = Unit
 
+-- by place, for C: where the call accepts, its figure r is exact at the place of the need
+abbrev pub EndplateFigureExact : EndplateSheet → Answer → ℕ → ℕ → Type 0
+EndplateFigureExact s answer place r = causeOf answer ≡ 0 → place ≡ 3 → EndplateThicknessExact s r
+
 -- the exact loads of a sheet: V1, V2 and V
 abbrev pub exactOperatingLoadOf : BlindFlangeSheet → ℕ
 exactOperatingLoadOf s =
@@ -82,3 +88,8 @@ abbrev pub BlindFlangeExact : BlindFlangeSheet → Answer → Type 0
 BlindFlangeExact s (Endplate f plate) = ⊥
 BlindFlangeExact s (BlindFlange f plate) = ThicknessExact s (f .thickness) × EdgeExact s (f .«edge_thickness»)
 BlindFlangeExact s (Refused cause figure) = Unit
+
+-- by place, for C: at the places of the need and of the edge
+abbrev pub BlindFlangeFigureExact : BlindFlangeSheet → Answer → ℕ → ℕ → Type 0
+BlindFlangeFigureExact s answer place r =
+    causeOf answer ≡ 0 → (place ≡ 9 → ThicknessExact s r) × (place ≡ 10 → EdgeExact s r)

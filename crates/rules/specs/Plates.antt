@@ -1,8 +1,9 @@
 -- The choice of a plate (document 01). Plates and the total in hundredths of a mm.
-use Prim.Native.Nat.{ℕ, _≤_}
+use Prim.Native.Nat.{ℕ, _+_, _*_, _≤_}
 use mathlib.Core.Bool.{Bool, true, _&&_, cond}
-use mathlib.Core.List.{List, foldl, List·Memᴰ}
+use mathlib.Core.List.{List, [], _∷_, foldl, List·Memᴰ}
 use lib.Dec.{leb, ltb}
+use lib.ListN.{getD}
 use Rattle.rules.specs.declared.plates.Choice.{Choice}
 use Rattle.rules.specs.declared.plates.Choice.the-variants.{Plate, NoPlate}
 
@@ -22,6 +23,23 @@ better total choice plate = cond (serves total plate && smaller plate choice) (P
 -- the smallest serving plate of a list, the first of equals
 unfoldable pub smallestServing : ℕ → List ℕ → Choice
 smallestServing total plates = foldl (better total) NoPlate plates
+
+-- ---- C's plates: bytes, four to a plate, lowest first; a remainder of fewer than four is not read
+
+abbrev pub lowestFirst : ℕ → ℕ → ℕ → ℕ → ℕ
+lowestFirst a b c d = a + 256 * b + 65536 * c + 16777216 * d
+
+-- the plate in the four bytes from an index on
+abbrev pub plateAt : List ℕ → ℕ → ℕ
+plateAt bytes at =
+    lowestFirst (getD bytes at 0) (getD bytes (at + 1) 0) (getD bytes (at + 2) 0) (getD bytes (at + 3) 0)
+
+unfoldable pub platesIn : List ℕ → List ℕ
+platesIn [] = []
+platesIn (a ∷ []) = []
+platesIn (a ∷ b ∷ []) = []
+platesIn (a ∷ b ∷ c ∷ []) = []
+platesIn (a ∷ b ∷ c ∷ d ∷ rest) = lowestFirst a b c d ∷ platesIn rest
 
 -- ---- what the plate rule asks of a choice
 

@@ -1,7 +1,8 @@
 // Sizing of flat endplates and blind flanges to BS 853-2:1996, clauses 5 and 8, on whole numbers.
 ghost use mathlib.Core.Path.{_≡_};
 ghost use Rattle.rules.specs.Answer.{endplateAnswer, blindFlangeAnswer, figureAt};
-ghost use Rattle.rules.specs.Exact.{EndplateExact, BlindFlangeExact};
+ghost use Rattle.rules.specs.Exact.{EndplateExact, EndplateFigureExact, BlindFlangeExact, BlindFlangeFigureExact};
+ghost use Rattle.rules.specs.Plates.{platesIn};
 
 mod bolts;
 mod causes;
@@ -11,20 +12,22 @@ mod gasket;
 mod loads;
 mod places;
 mod plates;
+mod sizing;
 mod stress;
 mod thickness;
 
-use plates::Choice;
+use places::figure_at;
+use plates::smallest_serving;
+use plates::smallest_serving_in;
+use sizing::blind_flange_sizing;
+use sizing::endplate_sizing;
+use sizing::total_of;
+use sizing::with_plate;
 
 // Forms a and d of an endplate; c is 2.
 pub(crate) const FORM_A: u32 = 1;
 
 pub(crate) const FORM_D: u32 = 3;
-
-// Causes that are found after the limits: the bolts do not carry; no listed plate serves.
-const BOLTS_OVERLOADED: u32 = 13;
-
-const NO_PLATE: u32 = 14;
 
 // The numbers of an endplate's sheet, in the order of its lines.
 pub struct EndplateSheet {
@@ -131,20 +134,9 @@ pub fn endplate(s: EndplateSheet, plates: &[u32]) -> Answer
     ensures { λ r. ⌜ r ≡ endplateAnswer s (now (plates .entry)) ⌝ }
     ensures exact { λ r. ⌜ EndplateExact s r ⌝ }
 {
-    let cause = causes::endplate_cause(s);
-    if cause != 0 {
-        return Answer::Refused { cause, figure: 0 };
-    }
-    let figures = figures::endplate_figures(s);
-    let total = figures.total;
-    let choice = plates::smallest_serving(total, plates);
-    match choice {
-        Choice::Plate(plate) => Answer::Endplate { figures, plate },
-        Choice::NoPlate => Answer::Refused {
-            cause: NO_PLATE,
-            figure: total,
-        },
-    }
+    let sizing = endplate_sizing(s);
+    let choice = smallest_serving(total_of(sizing), plates);
+    with_plate(sizing, choice)
 }
 
 // The size of a blind flange from a list of plates, or the first cause to refuse it.
@@ -152,42 +144,28 @@ pub fn blind_flange(s: BlindFlangeSheet, plates: &[u32]) -> Answer
     ensures { λ r. ⌜ r ≡ blindFlangeAnswer s (now (plates .entry)) ⌝ }
     ensures exact { λ r. ⌜ BlindFlangeExact s r ⌝ }
 {
-    let cause = causes::blind_flange_limits(s);
-    if cause != 0 {
-        return Answer::Refused { cause, figure: 0 };
-    }
-    let figures = figures::blind_flange_figures(s);
-    let area = bolts::bolt_area(s.root, s.count);
-    let operating = figures.operating_load;
-    let seating = figures.seating_load;
-    let sufficient = bolts::bolts_sufficient(operating, seating, area, s.sa, s.sb);
-    if !sufficient {
-        return Answer::Refused {
-            cause: BOLTS_OVERLOADED,
-            figure: 0,
-        };
-    }
-    let total = figures.total;
-    let choice = plates::smallest_serving(total, plates);
-    match choice {
-        Choice::Plate(plate) => Answer::BlindFlange { figures, plate },
-        Choice::NoPlate => Answer::Refused {
-            cause: NO_PLATE,
-            figure: total,
-        },
-    }
+    let sizing = blind_flange_sizing(s);
+    let choice = smallest_serving(total_of(sizing), plates);
+    with_plate(sizing, choice)
 }
 
-// By place, for C: 0 the cause, 1 its figure, from 2 on the figures of the endplate's report; 0 at any other.
-pub fn endplate_figure(s: EndplateSheet, plates: &[u32], place: u32) -> u64
-    ensures { λ r. ⌜ r ≡ figureAt (endplateAnswer s (now (plates .entry))) place ⌝ }
+// For C, one figure of an endplate by its place: 0 the cause, 1 its figure, from 2 on those of the report; 0 at any other.
+// The plates are bytes, four to a plate, lowest first.
+pub fn endplate_figure(s: EndplateSheet, plates: &[u8], place: u32) -> u64
+    ensures { λ r. ⌜ r ≡ figureAt (endplateAnswer s (platesIn (now (plates .entry)))) place ⌝ }
+    ensures exact { λ r. ⌜ EndplateFigureExact s (endplateAnswer s (platesIn (now (plates .entry)))) place r ⌝ }
 {
-    places::figure_at(endplate(s, plates), place)
+    let sizing = endplate_sizing(s);
+    let choice = smallest_serving_in(total_of(sizing), plates);
+    figure_at(with_plate(sizing, choice), place)
 }
 
-// By place, for C: 0 the cause, 1 its figure, from 2 on the figures of the blind flange's report; 0 at any other.
-pub fn blind_flange_figure(s: BlindFlangeSheet, plates: &[u32], place: u32) -> u64
-    ensures { λ r. ⌜ r ≡ figureAt (blindFlangeAnswer s (now (plates .entry))) place ⌝ }
+// For C, one figure of a blind flange by its place, in the same way.
+pub fn blind_flange_figure(s: BlindFlangeSheet, plates: &[u8], place: u32) -> u64
+    ensures { λ r. ⌜ r ≡ figureAt (blindFlangeAnswer s (platesIn (now (plates .entry)))) place ⌝ }
+    ensures exact { λ r. ⌜ BlindFlangeFigureExact s (blindFlangeAnswer s (platesIn (now (plates .entry)))) place r ⌝ }
 {
-    places::figure_at(blind_flange(s, plates), place)
+    let sizing = blind_flange_sizing(s);
+    let choice = smallest_serving_in(total_of(sizing), plates);
+    figure_at(with_plate(sizing, choice), place)
 }

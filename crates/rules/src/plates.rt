@@ -1,6 +1,7 @@
 // The choice of a plate, in hundredths of a mm.
+ghost use Prim.Native.Nat.{_+_, _≤_};
 ghost use mathlib.Core.Path.{_≡_};
-ghost use Rattle.rules.specs.Plates.{better, smallestServing};
+ghost use Rattle.rules.specs.Plates.{better, smallestServing, plateAt, platesIn};
 
 // The plate chosen from a list.
 pub(crate) enum Choice {
@@ -36,6 +37,28 @@ pub(crate) fn smallest_serving(total: u64, plates: &[u32]) -> Choice
     while i < plates.len() {
         choice = better_of(total, choice, plates[i]);
         i += 1;
+    }
+    choice
+}
+
+// The plate in the four bytes from index at on.
+fn plate_at(bytes: &[u8], at: usize) -> u32
+    requires { do ⌜ at + 4 ≤ (← ⟦bytes.len()⟧) ⌝ }
+    ensures { λ r. ⌜ r ≡ plateAt (now (bytes .entry)) at ⌝ }
+{
+    let low = (bytes[at] as u32) + 256 * (bytes[at + 1] as u32);
+    low + 65536 * (bytes[at + 2] as u32) + 16777216 * (bytes[at + 3] as u32)
+}
+
+// The same for C's list: bytes, four to a plate, lowest first; a remainder of fewer than four is not read.
+pub(crate) fn smallest_serving_in(total: u64, plates: &[u8]) -> Choice
+    ensures { λ r. ⌜ r ≡ smallestServing total (platesIn (now (plates .entry))) ⌝ }
+{
+    let mut choice = Choice::NoPlate;
+    let mut at: usize = 0;
+    while 4 <= plates.len() - at {
+        choice = better_of(total, choice, plate_at(plates, at));
+        at += 4;
     }
     choice
 }

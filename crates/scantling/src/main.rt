@@ -1,26 +1,11 @@
 // Reads one sheet on standard input, at most 4,096 bytes of it, and prints its report.
-use sheet::Outcome;
 use sheet::answer;
+use sheet::length_of;
 ghost use Prim.Native.Nat.{_≤_};
 ghost use mathlib.Core.Path.{_≡_};
 ghost use lib.ListN.{length, take};
 ghost use Rattle.report.specs.Report.{reportText, longest};
 ghost use Rattle.sheet.specs.Sheet.{answerOf};
-ghost use Rattle.sheet.specs.Outcome.{lengthOf};
-
-fn length_of(outcome: Outcome) -> usize
-    ensures { λ r. ⌜ r ≡ lengthOf outcome ⌝ }
-{
-    match outcome {
-        Outcome::Report { length } => length,
-        Outcome::Refused {
-            cause: _,
-            figure: _,
-            length,
-        } => length,
-        Outcome::ShortSpace { length } => length,
-    }
-}
 
 // Writes the sheet's report to the front of `out`, and answers its length.
 fn report_of(text: &[u8], out: &mut [u8]) -> usize

@@ -57,3 +57,18 @@ pub fn answer(text: &[u8], out: &mut [u8]) -> Outcome
         },
     }
 }
+
+// The length of the report that results, whether it was written or not.
+pub fn length_of(outcome: Outcome) -> usize
+    ensures { λ r. ⌜ r ≡ lengthOf outcome ⌝ }
+{
+    match outcome {
+        Outcome::Report { length } => length,
+        Outcome::Refused {
+            cause: _,
+            figure: _,
+            length,
+        } => length,
+        Outcome::ShortSpace { length } => length,
+    }
+}

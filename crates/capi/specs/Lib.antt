@@ -1,0 +1,2 @@
+-- What the contracts of capi cite.
+pub mod Call

@@ -1,0 +1,113 @@
+// What C calls. include/scantling.h says it for C, with the units and ranges.
+use rules::BlindFlangeSheet;
+use rules::EndplateSheet;
+ghost use mathlib.Core.Path.{_≡_};
+ghost use lib.ListN.{length};
+ghost use Rattle.root.specs.Root.{leastRoot};
+ghost use Rattle.rules.specs.Answer.{endplateAnswer, blindFlangeAnswer, figureAt};
+ghost use Rattle.rules.specs.Exact.{EndplateFigureExact, BlindFlangeFigureExact};
+ghost use Rattle.rules.specs.Plates.{platesIn};
+ghost use Rattle.report.specs.Report.{reportText};
+ghost use Rattle.sheet.specs.Sheet.{answerOf};
+ghost use Rattle.sheet.specs.Outcome.{outcomeOf, spaceOf};
+ghost use Rattle.sheet.specs.Exact.{SheetExact};
+ghost use Rattle.capi.specs.Call.{endplateCall, blindFlangeCall};
+
+// One figure of an endplate, by its place. The plates are bytes, four to a plate, lowest first.
+#[no_mangle]
+pub extern "C" fn scantling_endplate(
+    form: u32,
+    material: u32,
+    shell: u32,
+    temperature: u32,
+    pressure: u32,
+    diameter: u32,
+    allowance: u32,
+    plates: &[u8],
+    place: u32,
+) -> u64
+    ensures { λ r.
+        let s = endplateCall form material shell temperature pressure diameter allowance in
+        ⌜ r ≡ figureAt (endplateAnswer s (platesIn (now (plates .entry)))) place ⌝ }
+    ensures exact { λ r.
+        let s = endplateCall form material shell temperature pressure diameter allowance in
+        ⌜ EndplateFigureExact s (endplateAnswer s (platesIn (now (plates .entry)))) place r ⌝ }
+{
+    let sheet = EndplateSheet {
+        form,
+        material,
+        shell,
+        temperature,
+        pressure,
+        diameter,
+        allowance,
+    };
+    rules::endplate_figure(sheet, plates, place)
+}
+
+// One figure of a blind flange, in the same way.
+#[no_mangle]
+pub extern "C" fn scantling_blind_flange(
+    material: u32,
+    temperature: u32,
+    pressure: u32,
+    allowance: u32,
+    od: u32,
+    width: u32,
+    m: u32,
+    y: u32,
+    circle: u32,
+    bolt: u32,
+    root: u32,
+    count: u32,
+    sa: u32,
+    sb: u32,
+    plates: &[u8],
+    place: u32,
+) -> u64
+    ensures { λ r.
+        let s = blindFlangeCall material temperature pressure allowance od width m y circle bolt root count sa sb in
+        ⌜ r ≡ figureAt (blindFlangeAnswer s (platesIn (now (plates .entry)))) place ⌝ }
+    ensures exact { λ r.
+        let s = blindFlangeCall material temperature pressure allowance od width m y circle bolt root count sa sb in
+        ⌜ BlindFlangeFigureExact s (blindFlangeAnswer s (platesIn (now (plates .entry)))) place r ⌝ }
+{
+    let sheet = BlindFlangeSheet {
+        material,
+        temperature,
+        pressure,
+        allowance,
+        od,
+        width,
+        m,
+        y,
+        circle,
+        bolt,
+        root,
+        count,
+        sa,
+        sb,
+    };
+    rules::blind_flange_figure(sheet, plates, place)
+}
+
+// Answers the sheet in `text`: the length of the report that results. It stands at the front of `out` if that is long
+// enough; otherwise `out` is as it was.
+#[no_mangle]
+pub extern "C" fn scantling_sheet(text: &[u8], out: &mut [u8]) -> usize
+    ensures { λ r. ⌜ r ≡ length (reportText (answerOf (now (text .entry)))) ⌝ }
+    ensures content { λ _. ⌜ now (out .exit) ≡ spaceOf (now (text .entry)) (now (out .entry)) ⌝ }
+    ensures exact { λ _.
+        let outcome = outcomeOf (now (text .entry)) (now (out .entry)) in
+        ⌜ SheetExact (now (text .entry)) outcome (now (out .exit)) ⌝ }
+{
+    sheet::length_of(sheet::answer(text, out))
+}
+
+// The least root by itself, for measuring.
+#[no_mangle]
+pub extern "C" fn scantling_least_root(n: u64) -> u64
+    ensures { λ r. ⌜ r ≡ leastRoot n ⌝ }
+{
+    root::least_root(n)
+}

@@ -1,0 +1,98 @@
+// A part's size, which does not depend on the plates, and the plate chosen for it.
+use crate::Answer;
+use crate::BlindFlangeFigures;
+use crate::BlindFlangeSheet;
+use crate::EndplateFigures;
+use crate::EndplateSheet;
+use crate::bolts;
+use crate::causes;
+use crate::figures;
+use crate::plates::Choice;
+ghost use mathlib.Core.Path.{_≡_};
+ghost use Rattle.rules.specs.Answer.{endplateSizing, blindFlangeSizing, totalOf, withPlate};
+
+// Causes that are found after the limits: the bolts do not carry; no listed plate serves.
+const BOLTS_OVERLOADED: u32 = 13;
+
+const NO_PLATE: u32 = 14;
+
+// The figures of a part before its plate is chosen, or the first cause to refuse it.
+pub(crate) enum Sizing {
+    Endplate(EndplateFigures),
+    BlindFlange(BlindFlangeFigures),
+    Refused(u32),
+}
+
+pub(crate) fn endplate_sizing(s: EndplateSheet) -> Sizing
+    ensures { λ r. ⌜ r ≡ endplateSizing s ⌝ }
+{
+    let cause = causes::endplate_cause(s);
+    if cause != 0 {
+        return Sizing::Refused(cause);
+    }
+    Sizing::Endplate(figures::endplate_figures(s))
+}
+
+pub(crate) fn blind_flange_sizing(s: BlindFlangeSheet) -> Sizing
+    ensures { λ r. ⌜ r ≡ blindFlangeSizing s ⌝ }
+{
+    let cause = causes::blind_flange_limits(s);
+    if cause != 0 {
+        return Sizing::Refused(cause);
+    }
+    let figures = figures::blind_flange_figures(s);
+    let area = bolts::bolt_area(s.root, s.count);
+    let operating = figures.operating_load;
+    let seating = figures.seating_load;
+    let sufficient = bolts::bolts_sufficient(operating, seating, area, s.sa, s.sb);
+    if !sufficient {
+        return Sizing::Refused(BOLTS_OVERLOADED);
+    }
+    Sizing::BlindFlange(figures)
+}
+
+// total, in hundredths of a mm; 0 for a part that is refused.
+pub(crate) fn total_of(sizing: Sizing) -> u64
+    ensures { λ r. ⌜ r ≡ totalOf sizing ⌝ }
+{
+    match sizing {
+        Sizing::Endplate(figures) => figures.total,
+        Sizing::BlindFlange(figures) => figures.total,
+        Sizing::Refused(_) => 0,
+    }
+}
+
+fn endplate_from(figures: EndplateFigures, choice: Choice) -> Answer
+    ensures { λ r. ⌜ r ≡ withPlate (Sizing.Endplate figures) choice ⌝ }
+{
+    match choice {
+        Choice::Plate(plate) => Answer::Endplate { figures, plate },
+        Choice::NoPlate => Answer::Refused {
+            cause: NO_PLATE,
+            figure: figures.total,
+        },
+    }
+}
+
+fn blind_flange_from(figures: BlindFlangeFigures, choice: Choice) -> Answer
+    ensures { λ r. ⌜ r ≡ withPlate (Sizing.BlindFlange figures) choice ⌝ }
+{
+    match choice {
+        Choice::Plate(plate) => Answer::BlindFlange { figures, plate },
+        Choice::NoPlate => Answer::Refused {
+            cause: NO_PLATE,
+            figure: figures.total,
+        },
+    }
+}
+
+// The answer with the choice that was made for the part's total.
+pub(crate) fn with_plate(sizing: Sizing, choice: Choice) -> Answer
+    ensures { λ r. ⌜ r ≡ withPlate sizing choice ⌝ }
+{
+    match sizing {
+        Sizing::Endplate(figures) => endplate_from(figures, choice),
+        Sizing::BlindFlange(figures) => blind_flange_from(figures, choice),
+        Sizing::Refused(cause) => Answer::Refused { cause, figure: 0 },
+    }
+}
