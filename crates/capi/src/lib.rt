@@ -101,7 +101,8 @@ pub extern "C" fn scantling_sheet(text: &[u8], out: &mut [u8]) -> usize
         let outcome = outcomeOf (now (text .entry)) (now (out .entry)) in
         ⌜ SheetExact (now (text .entry)) outcome (now (out .exit)) ⌝ }
 {
-    sheet::length_of(sheet::answer(text, out))
+    let outcome = sheet::answer(text, out);
+    sheet::length_of(outcome)
 }
 
 // The least root by itself, for measuring.

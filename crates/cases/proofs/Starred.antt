@@ -16,7 +16,7 @@ use Rattle.rules.specs.BlindFlange.{flangeThickness, edgeUnder}
 use Rattle.rules.specs.Figures.{endplateFigures, blindFlangeFigures}
 use Rattle.rules.specs.Causes.{endplateCauses, blindFlangeLimits, blindFlangeCauses}
 use Rattle.rules.specs.Plates.{smallestServing}
-use Rattle.rules.specs.Answer.{endplateAnswer, blindFlangeAnswer}
+use Rattle.rules.specs.Answer.{endplateSizing, blindFlangeSizing, endplateAnswer, blindFlangeAnswer}
 use Rattle.text.specs.Ascii.{ascii, lineFeed}
 use Rattle.text.specs.Line.{before, after, valueOf}
 use Rattle.text.specs.Number.{numberOf}
@@ -143,9 +143,9 @@ pub starred : map (λ row. worked (row .0)) table ≡ map (λ row. row .1) table
 unfolding column designStress ceilDiv wholeRootBy leastRoot leastRootOver endplateStress endplateThickness
     wideWidth effectiveWidth reactionDiameter exactOperatingLoad exactSeatingLoad operatingLoad seatingLoad
     flangeLoad boltsSufficient flangeThickness edgeUnder endplateFigures blindFlangeFigures endplateCauses
-    blindFlangeLimits blindFlangeCauses smallestServing endplateAnswer blindFlangeAnswer indexOf indexAfter
-    before after valueOf numberOf numbersOf platesOf decimal numberLine reportText lineOf platesLine linesOf
-    partOf sheetOf answerOf
+    blindFlangeLimits blindFlangeCauses endplateSizing blindFlangeSizing smallestServing endplateAnswer
+    blindFlangeAnswer indexOf indexAfter before after valueOf numberOf numbersOf platesOf decimal numberLine
+    reportText lineOf platesLine linesOf partOf sheetOf answerOf
 starred = refl
 
 -- so each row by itself, counted from 0

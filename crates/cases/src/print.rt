@@ -10,8 +10,7 @@ pub(crate) fn number(n: u64) {
     io::print_decimal(STDOUT_FILENO, n);
 }
 
-pub(crate) fn answer(n: u64) {
-    text(b" =");
-    number(n);
-    text(b"\n");
+// The low 32 bits of a number of a vector.
+pub(crate) fn low(n: u64) -> u32 {
+    (n % 4294967296) as u32
 }

@@ -42,7 +42,7 @@ fn numbers(cause: u32, figure: u64, length: usize) {
     number(length as u64);
 }
 
-pub(crate) fn read(bytes: [u8; 512], size: usize, room: u32) {
+pub(crate) fn read(bytes: [u8; 512], size: usize, room: u64) {
     if 512 < size {
         return;
     }

@@ -12,5 +12,6 @@ pub mod PlateBytes
 pub mod RoundedLoads
 pub mod Accuracy
 pub mod Exactness
+pub mod Sizings
 pub mod Answers
 pub mod PlateRule

@@ -1,7 +1,7 @@
 -- `vectors::run` keeps within its input, and ends. Assumes nothing.
 use Prim.Native.Nat.{_-_, _≤_}
-use borrow.Author.Needs.{needs}
 use lib.ListN.{length}
+use borrow.Author.Needs.{needs}
 use Rattle.cases.proofs.vectors.run.Statement.{statement}
 use Rattle.cases.proofs.vectors.run.Tie as tie
 

@@ -6,7 +6,7 @@ use borrow.Author.Needs.{needs}
 use Rattle.rules.specs.Causes.{any, firstCause, blindFlangeLimits, boltsOverloaded}
 use Rattle.rules.proofs.Accepted.{blind-flange-accepted}
 use Rattle.rules.proofs.FlangeBounds.{figures-operating, figures-seating}
-use Rattle.rules.proofs.Answers.{flange-refused, flange-overloaded, flange-sized}
+use Rattle.rules.proofs.Sizings.{flange-refused, flange-overloaded, flange-sized}
 use Rattle.rules.proofs.sizing.blind_flange_sizing.Statement.{statement}
 use Rattle.rules.proofs.sizing.blind_flange_sizing.Tie as tie
 

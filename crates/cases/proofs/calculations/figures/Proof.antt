@@ -1,14 +1,14 @@
--- `vectors::figures` ends. Assumes nothing.
+-- `calculations::figures` ends. Assumes nothing.
 use Prim.Native.Nat.{_-_, _≤_}
 use borrow.Author.Needs.{needs}
-use Rattle.cases.proofs.vectors.figures.Statement.{statement}
-use Rattle.cases.proofs.vectors.figures.Tie as tie
+use Rattle.cases.proofs.calculations.figures.Statement.{statement}
+use Rattle.cases.proofs.calculations.figures.Tie as tie
 
 abbrev Inv-loop : tie.InvT-loop
-Inv-loop kind e b plates places place₀ place = place ≤ places
+Inv-loop n plates places place₀ place = place ≤ places
 
 abbrev μ-loop : tie.MeasureT-loop
-μ-loop kind e b plates places place₀ place = places - place
+μ-loop n plates places place₀ place = places - place
 
 pub figures-spec : {M : Type 1} → statement M
 figures-spec =
