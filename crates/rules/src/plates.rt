@@ -41,13 +41,20 @@ pub(crate) fn smallest_serving(total: u64, plates: &[u32]) -> Choice
     choice
 }
 
+fn wide(byte: u8) -> u32
+    ensures { λ r. ⌜ r ≡ byte ⌝ }
+    ensures { λ r. ⌜ r ≤ 255 ⌝ }
+{
+    byte as u32
+}
+
 // The plate in the four bytes from index at on.
 fn plate_at(bytes: &[u8], at: usize) -> u32
     requires { do ⌜ at + 4 ≤ (← ⟦bytes.len()⟧) ⌝ }
     ensures { λ r. ⌜ r ≡ plateAt (now (bytes .entry)) at ⌝ }
 {
-    let low = (bytes[at] as u32) + 256 * (bytes[at + 1] as u32);
-    low + 65536 * (bytes[at + 2] as u32) + 16777216 * (bytes[at + 3] as u32)
+    let low = wide(bytes[at]) + 256 * wide(bytes[at + 1]);
+    low + 65536 * wide(bytes[at + 2]) + 16777216 * wide(bytes[at + 3])
 }
 
 // The same for C's list: bytes, four to a plate, lowest first; a remainder of fewer than four is not read.

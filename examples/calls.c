@@ -1,0 +1,37 @@
+/* The calls of scantling.h, as a drawing program makes them. The README has the command that builds and runs this. */
+#include "scantling.h"
+
+#include <stdio.h>
+
+/* Plates of 25.00, 32.00 and 40.00 mm: four bytes each, lowest first. */
+static const uint8_t plates[] = {0xC4, 0x09, 0, 0, 0x80, 0x0C, 0, 0, 0xA0, 0x0F, 0, 0};
+
+/* The end of a shell of 500 mm inside diameter, form c, carbon steel, 1 N/mm2, 150 degrees C, 1 mm allowance. */
+static unsigned long endplate(uint32_t place)
+{
+    return (unsigned long)scantling_endplate(2, 1, 1, 150, 1000, 5000, 100, plates, sizeof plates, place);
+}
+
+/* The blind flange of examples/blind-flange.sheet. */
+static unsigned long blind_flange(uint32_t place)
+{
+    return (unsigned long)scantling_blind_flange(
+        1, 150, 1000, 100, 5000, 100, 200, 110, 5600, 20, 2250, 16, 100, 100, plates, sizeof plates, place);
+}
+
+int main(void)
+{
+    static const uint8_t text[] = "part=end\nform=a\n"; /* a sheet that ends too soon */
+    uint8_t report[SCANTLING_LONGEST_REPORT];
+    size_t length = scantling_sheet(text, sizeof text - 1, report, sizeof report);
+
+    if (endplate(SCANTLING_CAUSE) == SCANTLING_ACCEPTED)
+        printf("endplate: thickness %lu, plate %lu\n", endplate(SCANTLING_ENDPLATE_THICKNESS),
+               endplate(SCANTLING_ENDPLATE_PLATE));
+    if (blind_flange(SCANTLING_CAUSE) == SCANTLING_ACCEPTED)
+        printf("blind flange: thickness %lu, edge %lu, plate %lu\n", blind_flange(SCANTLING_BLIND_FLANGE_THICKNESS),
+               blind_flange(SCANTLING_BLIND_FLANGE_EDGE_THICKNESS), blind_flange(SCANTLING_BLIND_FLANGE_PLATE));
+    fwrite(report, 1, length, stdout);
+    printf("least root of 5000: %lu\n", (unsigned long)scantling_least_root(5000));
+    return 0;
+}

@@ -1,0 +1,257 @@
+/*
+ * Program `bench`: how much the archive does in a second beside the separate program, and for the least root beside
+ * floating point. Every round measures all works in turn; the medians of the rounds are printed. The sums of both sides
+ * must agree.
+ */
+#define _POSIX_C_SOURCE 199309L
+
+#include "numbers.h"
+#include "scantling.h"
+#include "sheets.h"
+
+#include <inttypes.h>
+#include <math.h>
+#include <stdio.h>
+#include <stdlib.h>
+#include <string.h>
+#include <time.h>
+
+#define ROUNDS 7
+#define SECONDS 0.18 /* of one measurement, at least */
+#define INPUTS 2000
+#define PLATES 8
+
+/* ---- Inputs, all of them accepted ---- */
+
+struct input {
+    uint32_t n[BLIND_NUMBERS];
+    uint8_t plates[4 * PLATES];
+};
+static struct input endplates[INPUTS], flanges[INPUTS];
+static struct text sheets[INPUTS]; /* the endplates and the flanges by turns */
+static uint64_t long_numbers[INPUTS], short_numbers[INPUTS];
+
+static void draw_input(struct rng *rng, enum part part, struct input *input, struct text *text)
+{
+    static struct question question;
+    const struct wish nothing = wish_nothing();
+    uint64_t figures[PAPER_PLACES];
+    do {
+        draw_numbers(rng, part, &nothing, &question);
+        draw_plates(rng, PLATES, PLATES, &question);
+        question_figures(&question, figures);
+    } while (figures[PLACE_CAUSE] != 0);
+    memcpy(input->n, question.numbers, sizeof input->n);
+    for (size_t i = 0; i < sizeof input->plates; i++)
+        input->plates[i] = (uint8_t)(question.plates[i / 4] >> 8 * (i % 4));
+    write_sheet(&question, text);
+}
+
+static void draw_inputs(void)
+{
+    static struct text unused;
+    struct rng rng = {8532};
+    for (size_t i = 0; i < INPUTS; i++) {
+        draw_input(&rng, PART_END, &endplates[i], i % 2 == 0 ? &sheets[i] : &unused);
+        draw_input(&rng, PART_BLIND, &flanges[i], i % 2 == 0 ? &unused : &sheets[i]);
+        long_numbers[i] = rng_of_length(&rng, rng_below(&rng, 65));
+        short_numbers[i] = rng_of_length(&rng, 16 + rng_below(&rng, 19));
+    }
+}
+
+/* ---- One pass over the inputs; the sum of what was found ---- */
+
+static uint64_t archive_endplates(void)
+{
+    uint64_t sum = 0;
+    for (size_t i = 0; i < INPUTS; i++) {
+        const uint32_t *n = endplates[i].n;
+        sum += scantling_endplate(
+            n[0], n[1], n[2], n[3], n[4], n[5], n[6], endplates[i].plates, 4 * PLATES, SCANTLING_ENDPLATE_PLATE);
+    }
+    return sum;
+}
+
+static uint64_t separate_endplates(void)
+{
+    uint64_t sum = 0, figures[PAPER_PLACES];
+    uint32_t plates[PLATES];
+    for (size_t i = 0; i < INPUTS; i++) {
+        size_t count = paper_plates(endplates[i].plates, 4 * PLATES, plates, PLATES);
+        paper_endplate(endplates[i].n, plates, count, figures);
+        sum += figures[END_PLATE_PLACE];
+    }
+    return sum;
+}
+
+static uint64_t archive_flanges(void)
+{
+    uint64_t sum = 0;
+    for (size_t i = 0; i < INPUTS; i++) {
+        const uint32_t *n = flanges[i].n;
+        sum += scantling_blind_flange(
+            n[0], n[1], n[2], n[3], n[4], n[5], n[6], n[7], n[8], n[9], n[10], n[11], n[12], n[13], flanges[i].plates,
+            4 * PLATES, SCANTLING_BLIND_FLANGE_PLATE);
+    }
+    return sum;
+}
+
+static uint64_t separate_flanges(void)
+{
+    uint64_t sum = 0, figures[PAPER_PLACES];
+    uint32_t plates[PLATES];
+    for (size_t i = 0; i < INPUTS; i++) {
+        size_t count = paper_plates(flanges[i].plates, 4 * PLATES, plates, PLATES);
+        paper_blind_flange(flanges[i].n, plates, count, figures);
+        sum += figures[BLIND_PLATE_PLACE];
+    }
+    return sum;
+}
+
+/* Length and last digit of the reports. */
+static uint64_t all_sheets(size_t (*answer)(const uint8_t *, size_t, uint8_t *, size_t))
+{
+    uint8_t report[SCANTLING_LONGEST_REPORT];
+    uint64_t sum = 0;
+    for (size_t i = 0; i < INPUTS; i++) {
+        size_t length = answer(sheets[i].bytes, sheets[i].length, report, sizeof report);
+        sum += length + report[length - 2];
+    }
+    return sum;
+}
+
+static uint64_t archive_sheets(void)
+{
+    return all_sheets(scantling_sheet);
+}
+
+static uint64_t separate_sheets(void)
+{
+    return all_sheets(paper_sheet);
+}
+
+static uint64_t search_root(uint64_t n)
+{
+    return paper_least_root(1, n);
+}
+
+/* Floating point, put right by whole steps. */
+static uint64_t float_root(uint64_t n)
+{
+    uint64_t root = (uint64_t)sqrt((double)n);
+    while ((u128)root * root < n)
+        root++;
+    while (root > 0 && (u128)(root - 1) * (root - 1) >= n)
+        root--;
+    return root;
+}
+
+#define ROOTS(name, root, numbers)             \
+    static uint64_t name(void)                 \
+    {                                          \
+        uint64_t sum = 0;                      \
+        for (size_t i = 0; i < INPUTS; i++)    \
+            sum += root(numbers[i]);           \
+        return sum;                            \
+    }
+ROOTS(archive_long_roots, scantling_least_root, long_numbers)
+ROOTS(separate_long_roots, search_root, long_numbers)
+ROOTS(float_long_roots, float_root, long_numbers)
+ROOTS(archive_short_roots, scantling_least_root, short_numbers)
+ROOTS(separate_short_roots, search_root, short_numbers)
+ROOTS(float_short_roots, float_root, short_numbers)
+
+/* ---- Measuring ---- */
+
+struct work {
+    const char *name;
+    uint64_t (*passes[3])(void); /* archive, separate program, floating point if any */
+};
+
+static const struct work works[] = {
+    {"endplate calls", {archive_endplates, separate_endplates, NULL}},
+    {"blind flange calls", {archive_flanges, separate_flanges, NULL}},
+    {"sheets, both parts", {archive_sheets, separate_sheets, NULL}},
+    {"least roots, 0 to 64 bits", {archive_long_roots, separate_long_roots, float_long_roots}},
+    {"least roots, 16 to 34 bits", {archive_short_roots, separate_short_roots, float_short_roots}},
+};
+#define WORKS (sizeof works / sizeof works[0])
+
+static double rates[WORKS][3][ROUNDS]; /* per second */
+volatile uint64_t bench_sink;          /* keeps the passes from being left out */
+
+static double now(void)
+{
+    struct timespec time;
+    clock_gettime(CLOCK_MONOTONIC, &time);
+    return (double)time.tv_sec + (double)time.tv_nsec * 1e-9;
+}
+
+static double measure(uint64_t (*pass)(void), uint64_t expected, const char *name)
+{
+    const double start = now();
+    double passes = 0, elapsed = 0;
+    while (elapsed < SECONDS) {
+        uint64_t sum = pass();
+        bench_sink += sum;
+        if (sum != expected) {
+            printf("difference: %s: sums %" PRIu64 " and %" PRIu64 "\n", name, expected, sum);
+            exit(1);
+        }
+        passes++;
+        elapsed = now() - start;
+    }
+    return passes * INPUTS / elapsed;
+}
+
+static void measure_round(int round)
+{
+    for (size_t i = 0; i < WORKS * 3; i++) {
+        const struct work *work = &works[i / 3];
+        if (work->passes[i % 3] != NULL)
+            rates[i / 3][i % 3][round] = measure(work->passes[i % 3], work->passes[0](), work->name);
+    }
+}
+
+static int by_size(const void *left, const void *right)
+{
+    const double a = *(const double *)left, b = *(const double *)right;
+    return (a > b) - (a < b);
+}
+
+static double median(const double *values)
+{
+    double sorted[ROUNDS];
+    memcpy(sorted, values, sizeof sorted);
+    qsort(sorted, ROUNDS, sizeof sorted[0], by_size);
+    return sorted[ROUNDS / 2];
+}
+
+static double median_ratio(const double *left, const double *right)
+{
+    double ratios[ROUNDS];
+    for (int round = 0; round < ROUNDS; round++)
+        ratios[round] = left[round] / right[round];
+    return median(ratios);
+}
+
+static void print_work(size_t i)
+{
+    printf("%-28s %14.0f %14.0f %8.2f", works[i].name, median(rates[i][0]), median(rates[i][1]),
+           median_ratio(rates[i][0], rates[i][1]));
+    if (works[i].passes[2] != NULL)
+        printf(" %14.0f %8.2f", median(rates[i][2]), median_ratio(rates[i][0], rates[i][2]));
+    printf("\n");
+}
+
+int main(void)
+{
+    draw_inputs();
+    for (int round = 0; round < ROUNDS; round++)
+        measure_round(round);
+    printf("median of %d rounds, per second; ratios are archive to the other\n", ROUNDS);
+    printf("%-28s %14s %14s %8s %14s %8s\n", "work", "archive", "separate", "ratio", "sqrt", "ratio");
+    for (size_t i = 0; i < WORKS; i++)
+        print_work(i);
+    return 0;
+}

@@ -1,0 +1,205 @@
+/*
+ * Program `compare [NUMERIC_CALLS [SHEETS [SEED]]]`: calls the archive as a drawing program would and compares every
+ * answer with the separate calculation. Exits with 1 at the first difference.
+ */
+#include "compare.h"
+#include "known.h"
+#include "limits.h"
+#include "scantling.h"
+
+#include <inttypes.h>
+#include <stdio.h>
+#include <stdlib.h>
+#include <string.h>
+
+#define LIMIT_ROUNDS 20 /* drawings of each limit and step */
+#define ROOT_ROUNDS 1500 /* roots of each binary length, three times */
+
+/* ---- Numbers to hold ---- */
+
+static void differ(size_t number, const char *who, uint64_t figure)
+{
+    printf("difference: number to hold %lu (from 1): the document has %" PRIu64 ", %s %" PRIu64 "\n",
+           (unsigned long)number + 1, known_cases[number].figure, who, figure);
+    exit(1);
+}
+
+/* The document's figure in a report: of the cause and of an accepted report's line. */
+static uint64_t known_figure_in(const struct known *known, const uint8_t *report, size_t length)
+{
+    const char *const *keys = known->part == PART_END ? paper_end_report_keys : paper_blind_report_keys;
+    const char *key = known->place == PLACE_CAUSE ? "refused"
+                      : known->place == PLACE_FIGURE ? "place"
+                                                     : keys[known->place - PLACE_REPORT];
+    uint64_t figure = 0;
+    report_figure(report, length, key, &figure);
+    return figure;
+}
+
+static void compare_known_sheet(size_t number, const struct text *text)
+{
+    const struct known *known = &known_cases[number];
+    uint8_t archive[PAPER_REPORT_ROOM] = {0}, separate[PAPER_REPORT_ROOM] = {0};
+    size_t archive_length = scantling_sheet(text->bytes, text->length, archive, sizeof archive);
+    size_t separate_length = paper_sheet(text->bytes, text->length, separate, sizeof separate);
+    if (archive_length > sizeof archive)
+        differ(number, "the archive's report is too long", archive_length);
+    if (known_figure_in(known, archive, archive_length) != known->figure)
+        differ(number, "the archive's report", known_figure_in(known, archive, archive_length));
+    if (known_figure_in(known, separate, separate_length) != known->figure)
+        differ(number, "the separate report", known_figure_in(known, separate, separate_length));
+}
+
+static void compare_known_case(struct compare *compare, size_t number)
+{
+    static const uint8_t plates[12] = {0xC4, 0x09, 0, 0, 0x80, 0x0C, 0, 0, 0xA0, 0x0F}; /* 2500, 3200, 4000 */
+    static struct question question;
+    static struct text text;
+    const struct known *known = &known_cases[number];
+    uint64_t figures[PAPER_PLACES];
+    known_question(known, &question);
+    question_figures(&question, figures);
+    uint64_t archive = archive_figure(&question, plates, sizeof plates, known->place);
+    if (figures[known->place] != known->figure)
+        differ(number, "the separate program", figures[known->place]);
+    if (archive != known->figure)
+        differ(number, "the archive", archive);
+    write_sheet(&question, &text);
+    compare_known_sheet(number, &text);
+    compare_question(compare, &question);
+    compare_sheet(compare, &text);
+    compare_spaces(compare, &text);
+}
+
+/* A sheet whose whole report the document prints. */
+static void compare_printed(struct compare *compare, const char *sheet, const char *report)
+{
+    static struct text text;
+    uint8_t archive[PAPER_REPORT_ROOM], separate[PAPER_REPORT_ROOM];
+    const size_t length = strlen(report);
+    text.length = strlen(sheet);
+    memcpy(text.bytes, sheet, text.length);
+    if (scantling_sheet(text.bytes, text.length, archive, sizeof archive) != length ||
+        paper_sheet(text.bytes, text.length, separate, sizeof separate) != length ||
+        memcmp(archive, report, length) != 0 || memcmp(separate, report, length) != 0) {
+        printf("difference: not the document's report of the sheet\n%s", sheet);
+        exit(1);
+    }
+    compare_sheet(compare, &text);
+    compare_spaces(compare, &text);
+}
+
+static void compare_known(struct compare *compare)
+{
+    for (size_t number = 0; number < known_count; number++)
+        compare_known_case(compare, number);
+    compare_printed(compare, known_sheet, known_report);
+    compare_printed(compare, "", known_empty_report);
+}
+
+/* ---- Limits ---- */
+
+static void compare_limit(struct compare *compare, const struct limit *limit, int step)
+{
+    static struct question question;
+    static struct text text;
+    for (int round = 0; round < LIMIT_ROUNDS; round++) {
+        draw_limit(&compare->rng, limit, step, &question);
+        draw_plates(&compare->rng, 0, PAPER_SHEET_PLATES, &question);
+        write_sheet(&question, &text);
+        compare_question(compare, &question);
+        compare_sheet(compare, &text);
+    }
+}
+
+static void compare_limits(struct compare *compare)
+{
+    for (size_t i = 0; i < limit_count; i++)
+        for (int step = -1; step <= 1; step++)
+            compare_limit(compare, &limits[i], step);
+}
+
+/* ---- Least roots ---- */
+
+static void compare_root(struct compare *compare, uint64_t n)
+{
+    uint64_t archive = scantling_least_root(n), separate = paper_least_root(1, n);
+    compare->roots++;
+    if (archive == separate)
+        return;
+    printf("difference: scantling_least_root(%" PRIu64 "): archive %" PRIu64 ", separate program %" PRIu64 "\n", n,
+           archive, separate);
+    exit(1);
+}
+
+/* Numbers of one binary length, and squares with their neighbours. At 0 the neighbour below is 2^64 - 1. */
+static void compare_roots_of_length(struct compare *compare, uint32_t bits)
+{
+    for (int round = 0; round < ROOT_ROUNDS; round++) {
+        uint64_t root = rng_of_length(&compare->rng, bits / 2);
+        compare_root(compare, rng_of_length(&compare->rng, bits));
+        compare_root(compare, root * root - 1);
+        compare_root(compare, root * root);
+        compare_root(compare, root * root + 1);
+    }
+}
+
+static void compare_roots(struct compare *compare)
+{
+    compare_root(compare, UINT64_MAX);
+    for (uint64_t n = 0; n < 10000; n++)
+        compare_root(compare, n);
+    for (uint32_t bits = 0; bits <= 64; bits++)
+        compare_roots_of_length(compare, bits);
+}
+
+/* ---- The program ---- */
+
+static void print_causes(const char *name, uint64_t flanges, const uint64_t causes[CAUSES])
+{
+    printf("; %s accepted %" PRIu64 " (%" PRIu64 " blind flanges), refused by cause", name, causes[0], flanges);
+    for (int cause = 1; cause < CAUSES; cause++)
+        printf(" %d:%" PRIu64, cause, causes[cause]);
+}
+
+static void print_counts(const struct compare *compare)
+{
+    printf("%" PRIu64 " numeric calls, %" PRIu64 " sheets, %" PRIu64 " other spaces, %" PRIu64 " roots, %" PRIu64
+           " accuracy checks",
+           compare->calls, compare->sheets, compare->spaces, compare->roots, compare->accuracy);
+    print_causes("numeric questions", compare->question_flanges, compare->question_causes);
+    print_causes("sheets", compare->sheet_flanges, compare->sheet_causes);
+    printf("; no difference\n");
+}
+
+static uint64_t argument(int count, char **words, int number, uint64_t otherwise)
+{
+    char *end;
+    if (number >= count)
+        return otherwise;
+    uint64_t value = strtoull(words[number], &end, 10);
+    if (words[number][0] < '0' || words[number][0] > '9' || *end != '\0' || count > 4) {
+        fprintf(stderr, "usage: compare [NUMERIC_CALLS [SHEETS [SEED]]]\n");
+        exit(2);
+    }
+    return value;
+}
+
+int main(int argc, char **argv)
+{
+    static struct compare compare;
+    const uint64_t calls = argument(argc, argv, 1, 1000000);
+    const uint64_t sheets = argument(argc, argv, 2, 1000000);
+    compare.rng.state = argument(argc, argv, 3, 8532);
+    printf("seed %" PRIu64 "\n", compare.rng.state);
+    fflush(stdout);
+    compare_known(&compare);
+    compare_limits(&compare);
+    compare_roots(&compare);
+    while (compare.calls < calls)
+        compare_drawn_question(&compare);
+    while (compare.sheets < sheets)
+        compare_drawn_sheet(&compare);
+    print_counts(&compare);
+    return 0;
+}

@@ -1,0 +1,163 @@
+/* Numeric calls. */
+#include "compare.h"
+#include "limits.h"
+#include "scantling.h"
+
+#include <inttypes.h>
+#include <stdio.h>
+#include <stdlib.h>
+#include <string.h>
+
+/* What one question is asked with, and the separate program's answer. */
+struct asking {
+    const struct question *question;
+    uint8_t *plates; /* a block of exactly this length, so that a memory checker sees what is read past it */
+    size_t plates_length;
+    uint64_t figures[PAPER_PLACES];
+};
+
+int is_exact(enum part part, const uint32_t *numbers, uint64_t thickness, uint64_t edge_thickness)
+{
+    if (part == PART_END)
+        return paper_endplate_exact(numbers, thickness);
+    return paper_blind_flange_exact(numbers, thickness, edge_thickness);
+}
+
+uint64_t archive_figure(const struct question *question, const uint8_t *plates, size_t plates_length, uint32_t place)
+{
+    const uint32_t *n = question->numbers;
+    if (question->part == PART_END)
+        return scantling_endplate(
+            n[END_FORM], n[END_MATERIAL], n[END_SHELL], n[END_TEMPERATURE], n[END_PRESSURE], n[END_DIAMETER],
+            n[END_ALLOWANCE], plates, plates_length, place);
+    return scantling_blind_flange(
+        n[BLIND_MATERIAL], n[BLIND_TEMPERATURE], n[BLIND_PRESSURE], n[BLIND_ALLOWANCE], n[BLIND_OD], n[BLIND_WIDTH],
+        n[BLIND_M], n[BLIND_Y], n[BLIND_CIRCLE], n[BLIND_BOLT], n[BLIND_ROOT], n[BLIND_COUNT], n[BLIND_SA],
+        n[BLIND_SB], plates, plates_length, place);
+}
+
+static void print_question(const struct asking *asking)
+{
+    const struct question *question = asking->question;
+    const char *const *keys = question->part == PART_END ? paper_end_keys : paper_blind_keys;
+    printf("%s:", question->part == PART_END ? "scantling_endplate" : "scantling_blind_flange");
+    for (size_t i = 0; i < number_count(question->part); i++)
+        printf(" %s=%" PRIu32, keys[i + 1], question->numbers[i]);
+    printf(" plates=");
+    for (size_t i = 0; i < question->plate_count; i++)
+        printf(i == 0 ? "%" PRIu32 : ",%" PRIu32, question->plates[i]);
+    printf(" and %u bytes over", (unsigned)(asking->plates_length % 4));
+}
+
+static void compare_place(struct compare *compare, const struct asking *asking, uint32_t place)
+{
+    uint64_t archive = archive_figure(asking->question, asking->plates, asking->plates_length, place);
+    uint64_t separate = place < PAPER_PLACES ? asking->figures[place] : 0;
+    compare->calls++;
+    if (archive == separate)
+        return;
+    printf("difference: ");
+    print_question(asking);
+    printf(" place=%" PRIu32 ": archive %" PRIu64 ", separate program %" PRIu64 "\n", place, archive, separate);
+    exit(1);
+}
+
+/* The figures judged are the archive's: their places were compared. */
+static void judge_question(struct compare *compare, const struct asking *asking)
+{
+    const int end = asking->question->part == PART_END;
+    uint64_t thickness = asking->figures[end ? END_THICKNESS_PLACE : BLIND_THICKNESS_PLACE];
+    uint64_t edge_thickness = asking->figures[BLIND_EDGE_THICKNESS_PLACE];
+    if (asking->figures[PLACE_CAUSE] != 0)
+        return;
+    compare->accuracy++;
+    compare->question_flanges += !end;
+    if (is_exact(asking->question->part, asking->question->numbers, thickness, edge_thickness))
+        return;
+    printf("not exact: ");
+    print_question(asking);
+    printf(": need %" PRIu64 " edge %" PRIu64 "\n", thickness, edge_thickness);
+    exit(1);
+}
+
+/* The plates in bytes, lowest first, and up to 3 bytes over. A list of no bytes is a null pointer half the time. */
+static void write_plates(struct compare *compare, struct asking *asking)
+{
+    const struct question *question = asking->question;
+    size_t over = rng_one_in(&compare->rng, 4) ? rng_below(&compare->rng, 4) : 0;
+    asking->plates_length = 4 * question->plate_count + over;
+    asking->plates = NULL;
+    if (asking->plates_length == 0 && rng_one_in(&compare->rng, 2))
+        return;
+    asking->plates = malloc(asking->plates_length + (asking->plates_length == 0));
+    if (asking->plates == NULL)
+        exit(2);
+    rng_fill(&compare->rng, asking->plates, asking->plates_length);
+    for (size_t i = 0; i < 4 * question->plate_count; i++)
+        asking->plates[i] = (uint8_t)(question->plates[i / 4] >> 8 * (i % 4));
+}
+
+static void compare_all_places(struct compare *compare, const struct asking *asking)
+{
+    for (uint32_t place = 0; place < PAPER_PLACES; place++)
+        compare_place(compare, asking, place);
+    compare_place(compare, asking, (uint32_t)rng_bits(&compare->rng));
+    compare_place(compare, asking, rng_one_in(&compare->rng, 2) ? UINT32_MAX : 1u << rng_below(&compare->rng, 32));
+}
+
+static void compare_some_places(struct compare *compare, const struct asking *asking)
+{
+    compare_place(compare, asking, PLACE_CAUSE);
+    compare_place(compare, asking, PLACE_FIGURE);
+    compare_place(compare, asking, asking->question->part == PART_END ? END_THICKNESS_PLACE : BLIND_THICKNESS_PLACE);
+    compare_place(compare, asking, BLIND_EDGE_THICKNESS_PLACE);
+    compare_place(compare, asking, rng_below(&compare->rng, PAPER_PLACES));
+}
+
+/* The paper's plates are read from the bytes, as the archive's are. */
+void compare_question(struct compare *compare, const struct question *question)
+{
+    static uint32_t plates[PLATES_ROOM];
+    struct asking asking;
+    asking.question = question;
+    write_plates(compare, &asking);
+    size_t count = paper_plates(asking.plates, asking.plates_length, plates, PLATES_ROOM);
+    if (question->part == PART_END)
+        paper_endplate(question->numbers, plates, count, asking.figures);
+    else
+        paper_blind_flange(question->numbers, plates, count, asking.figures);
+    compare->question_causes[asking.figures[PLACE_CAUSE]]++;
+    if (rng_one_in(&compare->rng, 4))
+        compare_all_places(compare, &asking);
+    else
+        compare_some_places(compare, &asking);
+    judge_question(compare, &asking);
+    free(asking.plates);
+}
+
+/* Some plates anywhere up to 2^32 - 1. */
+static void spread_plates(struct rng *rng, struct question *question)
+{
+    for (size_t i = 0; i < question->plate_count; i++)
+        if (rng_one_in(rng, 3))
+            question->plates[i] = (uint32_t)rng_of_length(rng, rng_below(rng, 33));
+}
+
+void compare_drawn_question(struct compare *compare)
+{
+    static struct question question;
+    struct rng *rng = &compare->rng;
+    const struct wish nothing = wish_nothing();
+    const uint32_t most = rng_one_in(rng, 400) ? PLATES_ROOM : rng_one_in(rng, 4) ? 40 : 6;
+    uint32_t kind = rng_below(rng, 10);
+    if (kind < 3)
+        draw_any_limit(rng, &question);
+    else
+        draw_numbers(rng, draw_part(rng), &nothing, &question);
+    if (kind == 3 || kind == 4)
+        draw_wild_numbers(rng, UINT32_MAX, &question);
+    draw_plates(rng, 0, most, &question);
+    if (rng_one_in(rng, 4))
+        spread_plates(rng, &question);
+    compare_question(compare, &question);
+}

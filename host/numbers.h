@@ -1,0 +1,38 @@
+/* What a numeric call is asked, and how such numbers are drawn. */
+#ifndef NUMBERS_H
+#define NUMBERS_H
+
+#include "paper.h"
+#include "rng.h"
+
+#define PLATES_ROOM 4096
+
+struct question {
+    enum part part;
+    uint32_t numbers[BLIND_NUMBERS]; /* END_NUMBERS of them for an endplate */
+    uint32_t plates[PLATES_ROOM];
+    size_t plate_count;
+};
+
+/* Values a drawing has to keep, by number; FREE where it may choose. */
+#define FREE (-1)
+struct wish {
+    int64_t numbers[BLIND_NUMBERS];
+};
+struct wish wish_nothing(void);
+
+size_t number_count(enum part part);
+void question_figures(const struct question *question, uint64_t figures[PAPER_PLACES]);
+
+/* Numbers that meet no cause before 13, wherever the wish leaves room for it. The plates stay as they were. */
+void draw_numbers(struct rng *rng, enum part part, const struct wish *wish, struct question *question);
+
+/* least to most plates about the total of the numbers, some far away. */
+void draw_plates(struct rng *rng, uint32_t least, uint32_t most, struct question *question);
+
+/* Replaces some of the numbers by others up to largest, which meet any cause. */
+void draw_wild_numbers(struct rng *rng, uint32_t largest, struct question *question);
+
+enum part draw_part(struct rng *rng);
+
+#endif

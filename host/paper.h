@@ -1,0 +1,94 @@
+/*
+ * The separate calculation: flat endplates and blind flanges worked from document 01 alone, in 128-bit integers and the
+ * document's units. Every "least whole number with ..." is a search on the inequality as the document writes it.
+ */
+#ifndef PAPER_H
+#define PAPER_H
+
+#include <stddef.h>
+#include <stdint.h>
+
+__extension__ typedef unsigned __int128 u128;
+
+enum part { PART_NONE, PART_END, PART_BLIND };
+
+/* The numbers of an endplate and of a blind flange, in the order of the sheet's lines. */
+enum { END_FORM, END_MATERIAL, END_SHELL, END_TEMPERATURE, END_PRESSURE, END_DIAMETER, END_ALLOWANCE, END_NUMBERS };
+enum {
+    BLIND_MATERIAL, BLIND_TEMPERATURE, BLIND_PRESSURE, BLIND_ALLOWANCE, BLIND_OD, BLIND_WIDTH, BLIND_M, BLIND_Y,
+    BLIND_CIRCLE, BLIND_BOLT, BLIND_ROOT, BLIND_COUNT, BLIND_SA, BLIND_SB, BLIND_NUMBERS
+};
+
+/* Forms a, c, d of 8.3.4 as the numeric call names them. */
+enum { FORM_A = 1, FORM_C = 2, FORM_D = 3 };
+
+/* Places of the figures. Those from 2 on stand in report order; a place without a figure holds 0. */
+enum { PLACE_CAUSE, PLACE_FIGURE, PLACE_REPORT };
+enum { END_DESIGN_STRESS_PLACE = PLACE_REPORT, END_THICKNESS_PLACE, END_TOTAL_PLACE, END_PLATE_PLACE };
+enum {
+    BLIND_DESIGN_STRESS_PLACE = PLACE_REPORT, BLIND_AMBIENT_STRESS_PLACE, BLIND_REACTION_DIAMETER_PLACE,
+    BLIND_EFFECTIVE_WIDTH_PLACE, BLIND_OPERATING_LOAD_PLACE, BLIND_SEATING_LOAD_PLACE, BLIND_FLANGE_LOAD_PLACE,
+    BLIND_THICKNESS_PLACE, BLIND_EDGE_THICKNESS_PLACE, BLIND_TOTAL_PLACE, BLIND_PLATE_PLACE
+};
+#define PAPER_PLACES 21
+
+enum { END_FIGURES = 4, BLIND_FIGURES = 11 }; /* of an accepted report */
+enum { END_LINES = END_NUMBERS + 2, BLIND_LINES = BLIND_NUMBERS + 2 }; /* of a sheet: part, the numbers, plates */
+
+#define PAPER_SHEET_PLATES 32
+#define PAPER_REPORT_ROOM 512
+
+/* Table 1: N/mm2; 0 for a dash, for no such material and above 300 degrees. */
+uint32_t paper_design_stress(uint32_t material, uint32_t temperature);
+
+/* F: the plate's stress, for forms c and d the lower of plate's and shell's; 0 if a material in use has none. */
+uint32_t paper_endplate_design_stress(const uint32_t n[END_NUMBERS]);
+
+/* The least x with a * x >= b. a is 1 or more and a * b below 2^128. */
+uint64_t paper_least_quotient(u128 a, u128 b);
+
+/* The least x with a * x * x >= b. a is 1 or more and both are below 2^64. */
+uint64_t paper_least_root(u128 a, u128 b);
+
+/* Gasket and loads of a blind flange that meets none of the causes 2 to 11. */
+struct paper_gasket {
+    u128 effective_width;   /* b, at most 1260 */
+    u128 reaction_diameter; /* G, 375 to 19,900 */
+    u128 operating_load;    /* Wm1, below 8.4 * 10^6 */
+    u128 seating_load;      /* Wm2, below 1.5 * 10^7 */
+};
+struct paper_gasket paper_gasket(const uint32_t n[BLIND_NUMBERS]);
+
+/* All figures by place, for any numbers. plates may be null where count is 0. */
+void paper_endplate(const uint32_t n[], const uint32_t *plates, size_t count, uint64_t figures[PAPER_PLACES]);
+void paper_blind_flange(const uint32_t n[], const uint32_t *plates, size_t count, uint64_t figures[PAPER_PLACES]);
+
+/* The plates in bytes as the C interface takes them; at most room are written. Returns how many. */
+size_t paper_plates(const uint8_t *bytes, size_t length, uint32_t *plates, size_t room);
+
+/* The accuracy demand on the printed numbers of an accepted sheet: 1 if the exact inequalities judge them right. */
+int paper_endplate_exact(const uint32_t n[END_NUMBERS], uint64_t thickness);
+int paper_blind_flange_exact(const uint32_t n[BLIND_NUMBERS], uint64_t thickness, uint64_t edge_thickness);
+
+/* What a sheet holds, and its figures by place. Under cause 1 only the figures are to be read. */
+struct paper_answer {
+    enum part part;
+    uint32_t numbers[BLIND_NUMBERS];
+    uint32_t plates[PAPER_SHEET_PLATES];
+    size_t plate_count;
+    uint64_t figures[PAPER_PLACES];
+};
+
+/* Keys in line order: of a sheet from line 1 on, of an accepted report from place 2 on. */
+extern const char *const paper_end_keys[END_LINES];
+extern const char *const paper_blind_keys[BLIND_LINES];
+extern const char *const paper_end_report_keys[END_FIGURES];
+extern const char *const paper_blind_report_keys[BLIND_FIGURES];
+
+/* The report or the refusal (causes 1 to 14) of a sheet, in PAPER_REPORT_ROOM bytes. Returns its length. */
+size_t paper_report(const uint8_t *text, size_t length, uint8_t *report, struct paper_answer *answer);
+
+/* The same in a lent space, which is written only if the report fits it. */
+size_t paper_sheet(const uint8_t *text, size_t length, uint8_t *out, size_t out_length);
+
+#endif

@@ -1,0 +1,98 @@
+/*
+ * Document 01, the accuracy demand: the exact inequalities, multiplied out until no fraction is left.
+ *
+ * 128 bits suffice. For an accepted sheet S and S0 are at most 128, G is below 20,000 and sb at most 400; a thickness
+ * above LARGEST is refused first. So 2 * 10^13 * sb * S0 * G * edge^2 is below 2.1 * 10^34. V is below 10^22 and C - G
+ * at most 10,000, so every right side is below 10^32. 2^128 is above 3.4 * 10^38.
+ */
+#include "paper.h"
+
+#define LARGEST 1000000 /* hundredths of a mm; no accepted sheet needs so much */
+
+#define TEN_5 UINT64_C(100000)
+#define TEN_10 UINT64_C(10000000000)
+#define TEN_12 UINT64_C(1000000000000)
+#define TEN_13 UINT64_C(10000000000000)
+
+/* 40 (form d: 30) * F * T^2 >= P * d^2 */
+static int endplate_holds(const uint32_t n[], u128 thickness)
+{
+    const u128 design_stress = paper_endplate_design_stress(n);
+    const u128 pressure = n[END_PRESSURE], diameter = n[END_DIAMETER];
+    if (n[END_FORM] == FORM_D)
+        return 30 * design_stress * thickness * thickness >= pressure * diameter * diameter;
+    return 40 * design_stress * thickness * thickness >= pressure * diameter * diameter;
+}
+
+int paper_endplate_exact(const uint32_t n[END_NUMBERS], uint64_t thickness)
+{
+    if (thickness == 0 || thickness > LARGEST)
+        return 0;
+    return endplate_holds(n, thickness) && !endplate_holds(n, thickness - 1);
+}
+
+struct exact_flange {
+    u128 design_stress;     /* S */
+    u128 ambient_stress;    /* S0 */
+    u128 pressure;          /* P */
+    u128 reaction_diameter; /* G */
+    u128 overhang;          /* C - G */
+    u128 sb;
+    u128 operating_load;    /* V1, exact Wm1 times 10^10 */
+    u128 flange_load;       /* V, exact W times 2 * 10^11 * sb */
+};
+
+/* seating_load is V2, exact Wm2 times 10^6. */
+static struct exact_flange exact_flange(const uint32_t n[])
+{
+    const struct paper_gasket gasket = paper_gasket(n);
+    const u128 effective_width = gasket.effective_width, reaction_diameter = gasket.reaction_diameter;
+    const u128 bolt_area = (u128)n[BLIND_COUNT] * n[BLIND_ROOT];
+    const u128 m = n[BLIND_M], y = n[BLIND_Y], sa = n[BLIND_SA], sb = n[BLIND_SB], pressure = n[BLIND_PRESSURE];
+    const u128 operating_load = 78500 * reaction_diameter * reaction_diameter * pressure +
+                                628 * effective_width * reaction_diameter * m * pressure;
+    const u128 seating_load = 314 * effective_width * reaction_diameter * y;
+    const u128 operating = 10 * operating_load * sa, seating = TEN_5 * seating_load * sb;
+    struct exact_flange flange;
+    flange.design_stress = paper_design_stress(n[BLIND_MATERIAL], n[BLIND_TEMPERATURE]);
+    flange.ambient_stress = paper_design_stress(n[BLIND_MATERIAL], 50);
+    flange.pressure = pressure;
+    flange.reaction_diameter = reaction_diameter;
+    flange.overhang = n[BLIND_CIRCLE] - reaction_diameter;
+    flange.sb = sb;
+    flange.operating_load = operating_load;
+    flange.flange_load = (operating > seating ? operating : seating) + TEN_10 * bolt_area * sa * sb;
+    return flange;
+}
+
+/* 10^12 * S * G * e^2 >= 3 * 10^10 * G^3 * P + 954500 * V1 * (C - G) */
+static int thickness_holds(const struct exact_flange *flange, u128 thickness)
+{
+    const u128 reaction_diameter = flange->reaction_diameter;
+    return TEN_12 * flange->design_stress * reaction_diameter * thickness * thickness >=
+           3 * TEN_10 * reaction_diameter * reaction_diameter * reaction_diameter * flange->pressure +
+               954500 * flange->operating_load * flange->overhang;
+}
+
+/* 2 * 10^13 * sb * S0 * G * edge^2 >= 954500 * V * (C - G) and 10^12 * S * G * edge^2 >= 954500 * V1 * (C - G) */
+static int edge_holds(const struct exact_flange *flange, u128 edge)
+{
+    const u128 edge_squared_diameter = flange->reaction_diameter * edge * edge;
+    return 2 * TEN_13 * flange->sb * flange->ambient_stress * edge_squared_diameter >=
+               954500 * flange->flange_load * flange->overhang &&
+           TEN_12 * flange->design_stress * edge_squared_diameter >=
+               954500 * flange->operating_load * flange->overhang;
+}
+
+/* Where 4.00 mm or more is printed, no whole number smaller by 2 or more holds. */
+int paper_blind_flange_exact(const uint32_t n[BLIND_NUMBERS], uint64_t thickness, uint64_t edge_thickness)
+{
+    const struct exact_flange flange = exact_flange(n);
+    if (thickness > LARGEST || edge_thickness > LARGEST)
+        return 0;
+    if (!thickness_holds(&flange, thickness) || !edge_holds(&flange, edge_thickness))
+        return 0;
+    if (thickness >= 400 && thickness_holds(&flange, thickness - 2))
+        return 0;
+    return edge_thickness < 400 || !edge_holds(&flange, edge_thickness - 2);
+}

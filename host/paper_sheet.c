@@ -1,0 +1,184 @@
+/* Document 01: the sheet, cause 1, and the report. */
+#include "paper.h"
+
+#include <string.h>
+
+const char *const paper_end_keys[END_LINES] = {
+    "part", "form", "material", "shell", "temp", "pressure", "dia", "allow", "plates"};
+const char *const paper_blind_keys[BLIND_LINES] = {
+    "part", "material", "temp", "pressure", "allow", "od", "width", "m", "y", "circle", "bolt", "root", "count", "sa",
+    "sb", "plates"};
+const char *const paper_end_report_keys[END_FIGURES] = {"stress", "need", "total", "plate"};
+const char *const paper_blind_report_keys[BLIND_FIGURES] = {
+    "stress", "cold", "g", "b", "wm1", "wm2", "w", "need", "edge", "total", "plate"};
+
+struct span {
+    const uint8_t *at;
+    size_t length;
+};
+
+static int span_is(struct span span, const char *word)
+{
+    return span.length == strlen(word) && memcmp(span.at, word, span.length) == 0;
+}
+
+static struct span span_from(struct span span, size_t start)
+{
+    struct span rest = {span.at + start, span.length - start};
+    return rest;
+}
+
+/* The bytes before the first stop; found tells whether there is one. */
+static struct span span_before(struct span span, uint8_t stop, int *found)
+{
+    const uint8_t *end = span.length == 0 ? NULL : memchr(span.at, stop, span.length);
+    *found = end != NULL;
+    if (end != NULL)
+        span.length = (size_t)(end - span.at);
+    return span;
+}
+
+/* ---- The sheet ---- */
+
+/* Takes the line of this key off the front of text. 0 if key, `=` or LF is not there. */
+static int take_line(struct span *text, const char *key, struct span *value)
+{
+    const size_t key_length = strlen(key);
+    int found;
+    if (text->length <= key_length || memcmp(text->at, key, key_length) != 0 || text->at[key_length] != '=')
+        return 0;
+    *value = span_before(span_from(*text, key_length + 1), '\n', &found);
+    if (found)
+        *text = span_from(*text, key_length + 1 + value->length + 1);
+    return found;
+}
+
+/* 1 to 6 digits, no leading zero but in 0 itself. */
+static int read_number(struct span text, uint32_t *number)
+{
+    *number = 0;
+    if (text.length < 1 || text.length > 6 || (text.length > 1 && text.at[0] == '0'))
+        return 0;
+    for (size_t i = 0; i < text.length; i++) {
+        if (text.at[i] < '0' || text.at[i] > '9')
+            return 0;
+        *number = 10 * *number + (uint32_t)(text.at[i] - '0');
+    }
+    return 1;
+}
+
+/* 0 to 32 numbers with commas between. */
+static int read_plates(struct span list, struct paper_answer *answer)
+{
+    int more = list.length > 0;
+    answer->plate_count = 0;
+    while (more) {
+        struct span number = span_before(list, ',', &more);
+        if (answer->plate_count == PAPER_SHEET_PLATES)
+            return 0;
+        if (!read_number(number, &answer->plates[answer->plate_count++]))
+            return 0;
+        if (more)
+            list = span_from(list, number.length + 1);
+    }
+    return 1;
+}
+
+static int read_form(struct span text, uint32_t *form)
+{
+    *form = span_is(text, "a") ? FORM_A : span_is(text, "c") ? FORM_C : span_is(text, "d") ? FORM_D : 0;
+    return *form != 0;
+}
+
+static enum part read_part(struct span *text)
+{
+    struct span value;
+    if (!take_line(text, "part", &value))
+        return PART_NONE;
+    return span_is(value, "end") ? PART_END : span_is(value, "blind") ? PART_BLIND : PART_NONE;
+}
+
+/* The value of a line from 2 on: a form, a number or the plates. */
+static int read_value(uint32_t line, uint32_t lines, struct span value, struct paper_answer *answer)
+{
+    if (line == lines)
+        return read_plates(value, answer);
+    if (answer->part == PART_END && line == 2)
+        return read_form(value, &answer->numbers[END_FORM]);
+    return read_number(value, &answer->numbers[line - 2]);
+}
+
+/* The number of the first line that is not what must stand there, 0 if none. */
+static uint32_t read_sheet(struct span text, struct paper_answer *answer)
+{
+    struct span value;
+    answer->part = read_part(&text);
+    if (answer->part == PART_NONE)
+        return 1;
+    const char *const *keys = answer->part == PART_END ? paper_end_keys : paper_blind_keys;
+    const uint32_t lines = answer->part == PART_END ? END_LINES : BLIND_LINES;
+    for (uint32_t line = 2; line <= lines; line++)
+        if (!take_line(&text, keys[line - 1], &value) || !read_value(line, lines, value, answer))
+            return line;
+    return text.length == 0 ? 0 : lines + 1;
+}
+
+/* ---- The report ---- */
+
+static size_t put_number(uint8_t *report, size_t length, uint64_t number)
+{
+    if (number >= 10)
+        length = put_number(report, length, number / 10);
+    report[length] = (uint8_t)('0' + number % 10);
+    return length + 1;
+}
+
+static size_t put_line(uint8_t *report, size_t length, const char *key, uint64_t number)
+{
+    memcpy(report + length, key, strlen(key));
+    length += strlen(key);
+    report[length++] = '=';
+    length = put_number(report, length, number);
+    report[length++] = '\n';
+    return length;
+}
+
+static size_t put_report(const struct paper_answer *answer, uint8_t *report)
+{
+    const char *const *keys = answer->part == PART_END ? paper_end_report_keys : paper_blind_report_keys;
+    const int count = answer->part == PART_END ? END_FIGURES : BLIND_FIGURES;
+    size_t length = 0;
+    for (int i = 0; i < count; i++)
+        length = put_line(report, length, keys[i], answer->figures[PLACE_REPORT + i]);
+    return length;
+}
+
+size_t paper_report(const uint8_t *text, size_t length, uint8_t *report, struct paper_answer *answer)
+{
+    const struct span sheet = {text, length};
+    uint32_t line;
+    memset(answer, 0, sizeof *answer);
+    line = read_sheet(sheet, answer);
+    if (line != 0) {
+        answer->figures[PLACE_CAUSE] = 1;
+        answer->figures[PLACE_FIGURE] = line;
+    } else if (answer->part == PART_END) {
+        paper_endplate(answer->numbers, answer->plates, answer->plate_count, answer->figures);
+    } else {
+        paper_blind_flange(answer->numbers, answer->plates, answer->plate_count, answer->figures);
+    }
+    if (answer->figures[PLACE_CAUSE] == 0)
+        return put_report(answer, report);
+    size_t refused = put_line(report, 0, "refused", answer->figures[PLACE_CAUSE]);
+    return put_line(report, refused, "place", answer->figures[PLACE_FIGURE]);
+}
+
+size_t paper_sheet(const uint8_t *text, size_t length, uint8_t *out, size_t out_length)
+{
+    uint8_t report[PAPER_REPORT_ROOM];
+    struct paper_answer answer;
+    size_t report_length = paper_report(text, length, report, &answer);
+    if (report_length <= out_length)
+        memcpy(out, report, report_length);
+    return report_length;
+}
