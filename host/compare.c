@@ -157,19 +157,20 @@ static void compare_roots(struct compare *compare)
 
 static void print_causes(const char *name, uint64_t flanges, const uint64_t causes[CAUSES])
 {
-    printf("; %s accepted %" PRIu64 " (%" PRIu64 " blind flanges), refused by cause", name, causes[0], flanges);
+    printf("%s: accepted %" PRIu64 ", %" PRIu64 " blind flanges among them; refused by cause", name, causes[0], flanges);
     for (int cause = 1; cause < CAUSES; cause++)
         printf(" %d:%" PRIu64, cause, causes[cause]);
+    printf("\n");
 }
 
 static void print_counts(const struct compare *compare)
 {
     printf("%" PRIu64 " numeric calls, %" PRIu64 " sheets, %" PRIu64 " other spaces, %" PRIu64 " roots, %" PRIu64
-           " accuracy checks",
+           " accuracy checks\n",
            compare->calls, compare->sheets, compare->spaces, compare->roots, compare->accuracy);
     print_causes("numeric questions", compare->question_flanges, compare->question_causes);
     print_causes("sheets", compare->sheet_flanges, compare->sheet_causes);
-    printf("; no difference\n");
+    printf("no difference\n");
 }
 
 static uint64_t argument(int count, char **words, int number, uint64_t otherwise)

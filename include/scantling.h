@@ -80,8 +80,8 @@ enum scantling_cause {
 #define SCANTLING_LONGEST_REPORT 319
 
 /*
- * One figure of an endplate without openings (8.3.4). The numbers stand in the order of a sheet's lines. Each may be any
- * uint32_t; outside its range the call is refused by its cause.
+ * One figure of an endplate without openings (8.3.4). The numbers stand in the order of a sheet's lines. Each may be
+ * any uint32_t; outside its range the call is refused by its cause.
  */
 uint64_t scantling_endplate(
     uint32_t form,        /* 1, 2, 3 for forms a, c, d of 8.3.4 */

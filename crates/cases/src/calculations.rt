@@ -1,5 +1,5 @@
-// Runs a calculation: 1 for an endplate or 2 for a blind flange, the numbers of the sheet in the order of its lines, and the
-// plates. Written are the answer of the call, and then the figures by place, as C gets them.
+// Runs a calculation: 1 for an endplate or 2 for a blind flange, the numbers of the sheet in the order of its lines,
+// and the plates. Written are the answer of the call, and then the figures by place, as C gets them.
 use crate::answers::answered;
 use crate::print::low;
 use crate::print::number;

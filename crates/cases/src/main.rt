@@ -1,6 +1,6 @@
-// Runs the sheet reader, the calculations, the tables and the root arithmetic on the vectors that stand on standard input.
-// Each line written is a vector and its answer; the file stdout has what must be written. Both files are made by the
-// separate program: host/vectors.c.
+// Runs the sheet reader, the calculations, the tables and the root arithmetic on the vectors on standard input. Each
+// line written is a vector and its answer; the file stdout has what must be written. The separate program makes both
+// files: host/vectors.c.
 mod answers;
 mod arithmetic;
 mod calculations;

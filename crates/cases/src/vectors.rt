@@ -1,6 +1,6 @@
-// Runs vectors, a line each, which is written again with the answer. The first number says what is asked: 1 an endplate,
-// 2 a blind flange (calculations.rt), 3 a sheet (sheets.rt), 4 a design stress, 5 a quotient, 6 a root, 7 a root over a
-// factor (arithmetic.rt).
+// Runs vectors, a line each, which is written again with the answer. The first number says what is asked: 1 an
+// endplate, 2 a blind flange (calculations.rt), 3 a sheet (sheets.rt), 4 a design stress, 5 a quotient, 6 a root, 7 a
+// root over a factor (arithmetic.rt).
 use crate::arithmetic::worked_out;
 use crate::calculations::sized;
 use crate::line::Line;

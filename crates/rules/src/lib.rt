@@ -149,8 +149,8 @@ pub fn blind_flange(s: BlindFlangeSheet, plates: &[u32]) -> Answer
     with_plate(sizing, choice)
 }
 
-// For C, one figure of an endplate by its place: 0 the cause, 1 its figure, from 2 on those of the report; 0 at any other.
-// The plates are bytes, four to a plate, lowest first.
+// For C, one figure of an endplate by its place: 0 the cause, 1 its figure, from 2 on those of the report; 0 at any
+// other. The plates are bytes, four to a plate, lowest first.
 pub fn endplate_figure(s: EndplateSheet, plates: &[u8], place: u32) -> u64
     ensures { λ r. ⌜ r ≡ figureAt (endplateAnswer s (platesIn (now (plates .entry)))) place ⌝ }
     ensures exact { λ r. ⌜ EndplateFigureExact s (endplateAnswer s (platesIn (now (plates .entry)))) place r ⌝ }

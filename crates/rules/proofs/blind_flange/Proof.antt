@@ -6,11 +6,13 @@ use Rattle.rules.proofs.blind_flange.Tie as tie
 
 returns : tie.Need-returns
 returns c =
-    let b = c .before .before .before in
-    let a = b .before .before .args in
+    let p = c .before in
+    let t = p .before in
+    let z = t .before in
+    let a = z .before .before .args in
     flange-promised (a .s) (a .plates .now)
-    (chosen _ (b .blind-flange-sizing .ensures) (c .before .before .total-of .ensures) (c .before .smallest-serving .ensures)
-    (c .with-plate .ensures))
+    (chosen _ (z .blind-flange-sizing .ensures) (t .total-of .ensures)
+    (p .smallest-serving .ensures) (c .with-plate .ensures))
 
 pub blind-flange-spec : {M : Type 1} → statement M
 blind-flange-spec =

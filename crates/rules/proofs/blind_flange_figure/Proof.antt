@@ -6,12 +6,15 @@ use Rattle.rules.proofs.blind_flange_figure.Tie as tie
 
 returns : tie.Need-returns
 returns c =
-    let b = c .before .before .before in
-    let z = b .before in
+    let w = c .before in
+    let p = w .before in
+    let t = p .before in
+    let z = t .before in
+    let a = z .before .before .args in
     let answer =
-    chosen _ (z .blind-flange-sizing .ensures) (b .total-of .ensures) (c .before .before .smallest-serving-in .ensures)
-    (c .before .with-plate .ensures) in
-    flange-placed (z .before .before .args .s) _ (rw (← answer) (c .figure-at .ensures))
+    chosen _ (z .blind-flange-sizing .ensures) (t .total-of .ensures) (p .smallest-serving-in .ensures)
+    (w .with-plate .ensures) in
+    flange-placed (a .s) _ (rw (← answer) (c .figure-at .ensures))
 
 pub blind-flange-figure-spec : {M : Type 1} → statement M
 blind-flange-figure-spec =

@@ -6,11 +6,13 @@ use Rattle.rules.proofs.endplate.Tie as tie
 
 returns : tie.Need-returns
 returns c =
-    let b = c .before .before .before in
-    let a = b .before .before .args in
+    let p = c .before in
+    let t = p .before in
+    let z = t .before in
+    let a = z .before .before .args in
     endplate-promised (a .s) (a .plates .now)
-    (chosen _ (b .endplate-sizing .ensures) (c .before .before .total-of .ensures) (c .before .smallest-serving .ensures)
-    (c .with-plate .ensures))
+    (chosen _ (z .endplate-sizing .ensures) (t .total-of .ensures)
+    (p .smallest-serving .ensures) (c .with-plate .ensures))
 
 pub endplate-spec : {M : Type 1} → statement M
 endplate-spec =

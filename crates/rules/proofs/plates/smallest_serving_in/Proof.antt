@@ -1,5 +1,5 @@
--- `plates::smallest_serving_in` meets its contract. Invariant: the choice so far, bettered by the plates in the rest of the
--- bytes, is the answer. Assumes nothing.
+-- `plates::smallest_serving_in` meets its contract. Invariant: the choice so far, bettered by the plates in the rest of
+-- the bytes, is the answer. Assumes nothing.
 use Prim.Native.Nat.{_≤_, _-_}
 use mathlib.Core.Path.{_≡_, refl, sym, _∙_}
 use mathlib.Core.List.{foldl}

@@ -1,5 +1,4 @@
 -- `sizing::endplate_from` meets its contract. Assumes nothing.
-use mathlib.Core.Path.{ap, sym}
 use borrow.Author.Needs.{needs}
 use Rattle.rules.proofs.sizing.endplate_from.Statement.{statement}
 use Rattle.rules.proofs.sizing.endplate_from.Tie as tie
