@@ -1,13 +1,14 @@
 // What C calls. include/scantling.h says it for C, with the units and ranges.
 use rules::BlindFlangeSheet;
 use rules::EndplateSheet;
+ghost use Prim.Native.Nat.{_≤_};
 ghost use mathlib.Core.Path.{_≡_};
 ghost use lib.ListN.{length};
 ghost use Rattle.root.specs.Root.{leastRoot};
 ghost use Rattle.rules.specs.Answer.{endplateAnswer, blindFlangeAnswer, figureAt};
 ghost use Rattle.rules.specs.Exact.{EndplateFigureExact, BlindFlangeFigureExact};
 ghost use Rattle.rules.specs.Plates.{platesIn};
-ghost use Rattle.report.specs.Report.{reportText};
+ghost use Rattle.report.specs.Report.{reportText, longest};
 ghost use Rattle.sheet.specs.Sheet.{answerOf};
 ghost use Rattle.sheet.specs.Outcome.{outcomeOf, spaceOf};
 ghost use Rattle.sheet.specs.Exact.{SheetExact};
@@ -100,6 +101,7 @@ pub extern "C" fn scantling_sheet(text: &[u8], out: &mut [u8]) -> usize
     ensures exact { λ _.
         let outcome = outcomeOf (now (text .entry)) (now (out .entry)) in
         ⌜ SheetExact (now (text .entry)) outcome (now (out .exit)) ⌝ }
+    ensures short { λ r. ⌜ r ≤ longest ⌝ }
 {
     let outcome = sheet::answer(text, out);
     sheet::length_of(outcome)

@@ -29,17 +29,17 @@ smallestServing total plates = foldl (better total) NoPlate plates
 abbrev pub lowestFirst : ℕ → ℕ → ℕ → ℕ → ℕ
 lowestFirst a b c d = a + 256 * b + 65536 * c + 16777216 * d
 
--- the plate in the four bytes from an index on
-abbrev pub plateAt : List ℕ → ℕ → ℕ
-plateAt bytes at =
-    lowestFirst (getD bytes at 0) (getD bytes (at + 1) 0) (getD bytes (at + 2) 0) (getD bytes (at + 3) 0)
-
 unfoldable pub platesIn : List ℕ → List ℕ
 platesIn [] = []
 platesIn (a ∷ []) = []
 platesIn (a ∷ b ∷ []) = []
 platesIn (a ∷ b ∷ c ∷ []) = []
 platesIn (a ∷ b ∷ c ∷ d ∷ rest) = lowestFirst a b c d ∷ platesIn rest
+
+-- the plate in the four bytes from an index on
+abbrev pub plateAt : List ℕ → ℕ → ℕ
+plateAt bytes at =
+    lowestFirst (getD bytes at 0) (getD bytes (at + 1) 0) (getD bytes (at + 2) 0) (getD bytes (at + 3) 0)
 
 -- ---- what the plate rule asks of a choice
 

@@ -41,6 +41,7 @@ pub(crate) fn smallest_serving(total: u64, plates: &[u32]) -> Choice
     choice
 }
 
+// A byte, which is at most 255.
 fn wide(byte: u8) -> u32
     ensures { λ r. ⌜ r ≡ byte ⌝ }
     ensures { λ r. ⌜ r ≤ 255 ⌝ }
