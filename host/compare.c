@@ -12,8 +12,8 @@
 #include <stdlib.h>
 #include <string.h>
 
-#define LIMIT_ROUNDS 20 /* drawings of each limit and step */
-#define ROOT_ROUNDS 1500 /* roots of each binary length, three times */
+#define LIMIT_ROUNDS 20 /* questions of each limit and step */
+#define ROOT_ROUNDS 1500 /* of each binary length: so many numbers, and so many squares with their neighbours */
 
 /* ---- Numbers to hold ---- */
 
@@ -157,7 +157,8 @@ static void compare_roots(struct compare *compare)
 
 static void print_causes(const char *name, uint64_t flanges, const uint64_t causes[CAUSES])
 {
-    printf("%s: accepted %" PRIu64 ", %" PRIu64 " blind flanges among them; refused by cause", name, causes[0], flanges);
+    printf("%s: accepted %" PRIu64 ", %" PRIu64 " blind flanges among them; refused by cause", name, causes[0],
+           flanges);
     for (int cause = 1; cause < CAUSES; cause++)
         printf(" %d:%" PRIu64, cause, causes[cause]);
     printf("\n");

@@ -14,7 +14,7 @@ struct question {
     size_t plate_count;
 };
 
-/* Values a drawing has to keep, by number; FREE where it may choose. */
+/* Values that are to be kept, by number; FREE where any may be drawn. */
 #define FREE (-1)
 struct wish {
     int64_t numbers[BLIND_NUMBERS];

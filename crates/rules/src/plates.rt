@@ -58,7 +58,7 @@ fn plate_at(bytes: &[u8], at: usize) -> u32
     low + 65536 * wide(bytes[at + 2]) + 16777216 * wide(bytes[at + 3])
 }
 
-// The same for C's list: bytes, four to a plate, lowest first; a remainder of fewer than four is not read.
+// The same choice from C's list: bytes, four to a plate, lowest first; a remainder of fewer than four is not read.
 pub(crate) fn smallest_serving_in(total: u64, plates: &[u8]) -> Choice
     ensures { λ r. ⌜ r ≡ smallestServing total (platesIn (now (plates .entry))) ⌝ }
 {
