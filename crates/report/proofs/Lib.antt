@@ -1,4 +1,3 @@
--- Laws that the proofs of the functions cite. For other crates: Written and ReadBack.
-pub mod Written
-pub mod Digits
-pub mod ReadBack
+-- Laws that the proofs of the functions cite.
+mod Written
+mod Digits

@@ -1,15 +1,14 @@
 -- Text written over a part of a space, piece by piece and all at once. Assumes nothing.
-use Prim.Native.Nat.{ℕ, zero, suc, _+_, _-_, _≤_, _<_}
+use Prim.Native.Nat.{ℕ, zero, suc, _+_, _-_}
 use mathlib.Core.List.{List, [], _∷_, _++_, append-nil}
 use mathlib.Core.Path.{_≡_, refl, sym, ap, _∙_}
 use native.Mathlib.Nat.{le-of-eq, zero-add, add-zero, suc-add}
 use native.Mathlib.Omega.{arith}
-use borrow.Author.Tests.{le-leb, lt-leb}
 use borrow.Rule.Slice.PartAt.{part-to-end}
 use borrow.Rule.Slice.PartMut.{midOf, putMid}
 use lib.ListN.{length, take, drop, length-append, length-drop, drop-of-length-le, take-append-drop}
 use lib.Seq.{take-all, take-length, take-nil, drop-nil, drop-drop, take-append-seam}
-use Rattle.report.specs.Space.{writtenAt, laid, Wrote}
+use Rattle.report.specs.Space.{writtenAt, Wrote}
 
 -- ---- one piece after another
 
@@ -66,18 +65,3 @@ copied d at s =
 pub front : {d d' s : List ℕ} {r : ℕ} → Wrote d 0 s r d' → take r d' ≡ s
 unfolding writtenAt
 front {d} {d'} {s} {r} w = rw (w .content, w .place, zero-add) (take-append-seam s _)
-
--- ---- lent space
-
-pub laid-fits : (at : ℕ) (s d : List ℕ) → at + length s ≤ length d → laid at s d ≡ writtenAt at s d
-unfolding laid
-laid-fits at s d h = simp (le-leb (at + length s) (length d) h)
-
-pub laid-not : (at : ℕ) (s d : List ℕ) → length d < at + length s → laid at s d ≡ d
-unfolding laid
-laid-not at s d h = simp (lt-leb (at + length s) (length d) h)
-
--- what fits stands at the front
-pub laid-front : (s d : List ℕ) → length s ≤ length d → take (length s) (laid 0 s d) ≡ s
-unfolding writtenAt
-laid-front s d h = rw (laid-fits 0 s d (omega arith), zero-add) (take-append-seam s _)

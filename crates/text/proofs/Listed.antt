@@ -3,16 +3,17 @@ use Prim.Native.Nat.{ℕ, suc, _+_, _-_, _≤_, _<_}
 use mathlib.Core.Bool.{true, false}
 use mathlib.Core.List.{List, [], _∷_, _++_, append-assoc}
 use mathlib.Core.Option.{Option, none, some}
-use mathlib.Core.Path.{_≡_, refl, sym, ap, _∙_}
+use mathlib.Core.Path.{_≡_, refl, sym, ap}
 use native.Mathlib.Numerals.{add-one}
 use native.Mathlib.Omega.{arith}
 use borrow.Author.Tests.{eq-eqb, ne-eqb}
-use lib.ListN.{length, take, drop, set, getD, replicate, take-append-drop}
-use lib.Seq.{drop-cons, take-suc-set, drop-set-lt, length-take-le}
+use lib.ListN.{length, take, drop, set, replicate}
+use lib.Seq.{take-suc-set, length-take-le}
 use Rattle.text.specs.Ascii.{comma}
 use Rattle.text.specs.Line.{holds, before, after}
 use Rattle.text.specs.Number.{numberOf}
 use Rattle.text.specs.Plates.{most, ahead, numbersOf, platesOf, held}
+use Rattle.text.specs.Laws.Padded.{zeros-fill}
 use Rattle.text.specs.declared.number.Number.the-variants.{Value, Malformed}
 
 -- a list read so far, before what the rest is read as
@@ -76,19 +77,7 @@ module _ (t : List ℕ) (c : ℕ) (h : c < most) where
         → prepend (take c l) (numbersOf (most - c) t) ≡ some (take (c + 1) (set l c x))
     listed-last l g n = rw (numbers-last n, grown l g)
 
--- ---- an array of so many places that holds a list in its first ones, zeros after it
-
-pub zeros-after : (places : ℕ) (l : List ℕ) (c x : ℕ) → c < places → length l ≡ places
-    → drop c l ≡ replicate (places - c) 0 → drop (c + 1) (set l c x) ≡ replicate (places - (c + 1)) 0
-zeros-after places l c x h e z =
-    let k : places - c ≡ suc (places - (c + 1)) = omega arith in
-    let p : getD l c 0 ∷ drop (suc c) l ≡ replicate (suc (places - (c + 1))) 0 =
-    sym (drop-cons l c 0 (omega arith)) ∙ z ∙ rw k in
-    drop-set-lt (c + 1) l c x (omega arith) ∙ ap (λ (j : ℕ). drop j l) (add-one c) ∙ ap (drop 1) p
-
-pub zeros-fill : (places : ℕ) (l : List ℕ) (c : ℕ) → c ≤ length l → drop c l ≡ replicate (places - c) 0
-    → l ≡ take c l ++ replicate (places - length (take c l)) 0
-zeros-fill places l c h z = rw (length-take-le c l h, ← z) (sym (take-append-drop c l))
+-- ---- how a list is handed back
 
 pub held-some : (l : List ℕ) (c : ℕ) → c ≤ most → length l ≡ most → drop c l ≡ replicate (most - c) 0
     → record { ok = true; count = c; list = l } ≡ held (some (take c l))

@@ -1,5 +1,5 @@
--- Parts of a text: what it begins with, where a byte is, and what stands around it. Assumes nothing.
-use Prim.Native.Nat.{ℕ, suc, _+_, _-_, _≤_}
+-- Parts of a text: what it begins with, and what stands around a byte. Assumes nothing.
+use Prim.Native.Nat.{ℕ, _+_, _-_, _≤_}
 use mathlib.Core.Bool.{Bool, true, false, _&&_, and-false, false≢true}
 use mathlib.Core.List.{List, [], _∷_, _++_, append-nil}
 use mathlib.Core.Path.{_≡_, refl, sym, ap, _∙_}
@@ -9,9 +9,10 @@ use borrow.Author.Tests.{eqb-true, eq-eqb}
 use lib.Dec.{eqb}
 use lib.ListN.{length, take, drop, drop-of-length-le, take-append-drop, List·getD-eq-default}
 use lib.Seq.{take-all}
-use Rattle.bytes.specs.Bytes.{slice, indexOf, indexAfter}
+use Rattle.bytes.specs.Bytes.{slice, indexOf}
 use Rattle.text.specs.Ascii.{lineFeed}
 use Rattle.text.specs.Line.{begins, same, isLine, after, valueOf}
+use Rattle.text.specs.Laws.Joined.{begins-append}
 
 -- the slice of all of t is t
 pub slice-all : (t : List ℕ) → slice 0 (length t) t ≡ t
@@ -33,10 +34,6 @@ value-none key t end e h =
     rw (a, b)
 
 -- ---- what a text begins with, as a test and as an equation
-
-pub begins-append : (s t : List ℕ) → begins s (s ++ t) ≡ true
-begins-append [] t = refl
-begins-append (b ∷ s) t = rw (eq-eqb b b refl) (begins-append s t)
 
 take-begins : (s t : List ℕ) → take (length s) t ≡ s → begins s t ≡ true
 take-begins s t e =
@@ -84,20 +81,3 @@ text-same s t r h =
 pub line-short : (key t : List ℕ) → length t ≤ length key → isLine key t ≡ false
 line-short key t h =
     rw (List·getD-eq-default t 0 h, and-false (begins key t))
-
--- ---- where a byte is
-
--- b is not among the bytes of xs
-abbrev pub Lacks : ℕ → List ℕ → Type 0
-Lacks b xs = indexOf b xs ≡ length xs
-
-pub index-append : (b : ℕ) (xs ys : List ℕ) → Lacks b xs → indexOf b (xs ++ ys) ≡ length xs + indexOf b ys
-unfolding indexOf indexAfter
-index-append b [] ys e = omega arith
-index-append b (x ∷ xs) ys e = go (eqb x b) e (index-append b xs ys)
-  where
-    go : (t : Bool) → indexAfter t (indexOf b xs) ≡ suc (length xs)
-        → (indexOf b xs ≡ length xs → indexOf b (xs ++ ys) ≡ length xs + indexOf b ys)
-        → indexAfter t (indexOf b (xs ++ ys)) ≡ suc (length xs) + indexOf b ys
-    go true q f = absurd (omega arith)
-    go false q f = omega (arith, f (omega arith))

@@ -1,13 +1,14 @@
 -- The plate list: 0 to 32 numbers with commas between.
-use Prim.Native.Nat.{ℕ, zero, suc, _-_}
+use Prim.Native.Nat.{ℕ, zero, suc}
 use mathlib.Core.Bool.{true, false, cond}
-use mathlib.Core.List.{List, [], _∷_, _++_}
+use mathlib.Core.List.{List, [], _∷_}
 use mathlib.Core.Option.{Option, none, some}
 use lib.Dec.{eqb}
-use lib.ListN.{length, replicate}
+use lib.ListN.{length}
 use Rattle.text.specs.Ascii.{comma}
 use Rattle.text.specs.Line.{holds, before, after}
 use Rattle.text.specs.Number.{numberOf}
+use Rattle.text.specs.Padded.{padded}
 use Rattle.text.specs.declared.number.Number.{Number}
 use Rattle.text.specs.declared.number.Number.the-variants.{Value, Malformed}
 use Rattle.text.specs.declared.plates.Plates.{Plates}
@@ -32,7 +33,7 @@ numbersOf (suc k) t =
 unfoldable pub platesOf : List ℕ → Option (List ℕ)
 platesOf v = let listed = numbersOf most v in cond (eqb (length v) 0) (some []) listed
 
--- how a list is handed back: in the first places of an array, zeros after it
+-- how a list is handed back
 abbrev pub held : Option (List ℕ) → Plates
-held (some xs) = record { ok = true; count = length xs; list = xs ++ replicate (most - length xs) 0 }
-held none = record { ok = false; count = 0; list = replicate most 0 }
+held (some xs) = record { ok = true; count = length xs; list = padded most xs }
+held none = record { ok = false; count = 0; list = padded most [] }

@@ -4,6 +4,7 @@ mod number;
 mod plates;
 
 pub use line::is_line;
+pub use line::is_word;
 pub use line::next_line;
 pub use line::value;
 pub use number::Number;

@@ -4,7 +4,7 @@ ghost use Prim.Native.Nat.{_≤_};
 ghost use lib.ListN.{length};
 ghost use Rattle.bytes.specs.Bytes.{indexOf};
 ghost use Rattle.text.specs.Ascii.{lineFeed};
-ghost use Rattle.text.specs.Line.{holds, before, after, isLine, valueOf};
+ghost use Rattle.text.specs.Line.{holds, before, after, same, isLine, valueOf};
 
 const LINE_FEED: u8 = b'\n';
 
@@ -52,6 +52,13 @@ pub fn is_line(t: &[u8], key: &[u8]) -> bool
         return false;
     }
     check::same(&t[..size], key) & (t[size] == EQUALS) & has(t, LINE_FEED)
+}
+
+// Whether a value is this word.
+pub fn is_word(v: &[u8], word: &[u8]) -> bool
+    ensures { λ r. ⌜ r ≡ same (now (word .entry)) (now (v .entry)) ⌝ }
+{
+    check::same(v, word)
 }
 
 // The value of the line that t begins with: the part of t between the `=` after the key and the LF.

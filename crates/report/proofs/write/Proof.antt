@@ -4,7 +4,8 @@ use native.Mathlib.Omega.{arith}
 use borrow.Author.Needs.{needs}
 use lib.Seq.{length-take-le}
 use Rattle.report.specs.Report.{reportText}
-use Rattle.report.proofs.Written.{copied, front, laid-fits, laid-not}
+use Rattle.report.specs.Laws.Laid.{laid-fits, laid-not}
+use Rattle.report.proofs.Written.{copied, front}
 use Rattle.report.proofs.write.Statement.{statement}
 use Rattle.report.proofs.write.Tie as tie
 

@@ -9,8 +9,9 @@ use Rattle.text.specs.Ascii.{comma}
 use Rattle.text.specs.Line.{before}
 use Rattle.text.specs.Number.{numberOf}
 use Rattle.text.specs.Plates.{most, platesOf, numbersOf, held}
+use Rattle.text.specs.Laws.Padded.{zeros-after}
 use Rattle.text.proofs.Listed.{prepend, plates-none, plates-some, numbers-over, numbers-malformed}
-use Rattle.text.proofs.Listed.{listed-more, listed-last, zeros-after, held-some, held-none}
+use Rattle.text.proofs.Listed.{listed-more, listed-last, held-some, held-none}
 use Rattle.text.proofs.plates.read_plates.Statement.{statement}
 use Rattle.text.proofs.plates.read_plates.Tie as tie
 

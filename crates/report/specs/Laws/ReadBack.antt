@@ -9,7 +9,7 @@ use Rattle.text.specs.Ascii.{ascii}
 use Rattle.text.specs.Decimal.{numberLine}
 use Rattle.text.specs.Printed.{printed}
 use Rattle.text.specs.declared.number.Number.the-variants.{Value}
-use Rattle.text.proofs.RoundTrip.{printed-here, printed-later}
+use Rattle.text.specs.Laws.RoundTrip.{printed-here, printed-later}
 use Rattle.report.specs.Report.{reportText}
 
 pub endplate-need : (f : EndplateFigures) (plate : ℕ)

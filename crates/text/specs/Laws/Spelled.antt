@@ -12,7 +12,7 @@ use Rattle.text.specs.Ascii.{lineFeed}
 use Rattle.text.specs.Number.{isDigit, digitsAfter}
 use Rattle.text.specs.Decimal.{digitsOf, decimal}
 use Rattle.text.specs.declared.number.Number.the-variants.{Value, Malformed}
-use Rattle.text.proofs.Parts.{Lacks, index-append}
+use Rattle.text.specs.Laws.Joined.{Lacks, index-append}
 
 -- fuel beyond n changes nothing
 fuel : (f g n : ℕ) → n ≤ f → n ≤ g → digitsOf f n ≡ digitsOf g n

@@ -13,8 +13,8 @@ use Rattle.text.specs.Line.{holds, after, isLine, valueOf}
 use Rattle.text.specs.Decimal.{decimal, numberLine}
 use Rattle.text.specs.Printed.{printedWithin}
 use Rattle.text.specs.declared.number.Number.the-variants.{Value}
-use Rattle.text.proofs.Parts.{begins-append, Lacks, index-append}
-use Rattle.text.proofs.Spelled.{decimal-reads, decimal-some, decimal-line}
+use Rattle.text.specs.Laws.Joined.{begins-append, Lacks, index-append}
+use Rattle.text.specs.Laws.Spelled.{decimal-reads, decimal-some, decimal-line}
 
 module _ (key rest : List ℕ) (n : ℕ) (k : Lacks lineFeed key) where
   abbrev start : List ℕ

@@ -1,0 +1,3 @@
+-- Laws that callers cite.
+pub mod Laid
+pub mod ReadBack

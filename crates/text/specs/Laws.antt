@@ -1,0 +1,5 @@
+-- Laws that callers cite, and what they rest on.
+pub mod Joined
+pub mod Spelled
+pub mod RoundTrip
+pub mod Padded
