@@ -8,7 +8,7 @@ use native.Mathlib.Nat.{mul-le-mul, div-lt-iff-lt-mul, lt-of-not-le}
 use native.Mathlib.Omega.{arith}
 use lib.Dec.{leb}
 use borrow.Author.Tests.{leb-true, leb-false, ne-eqb}
-use Rattle.root.specs.Least.{Least, Covers, Reaches, least-unique}
+use Rattle.root.specs.Least.{_≥_, Least, Covers, Reaches, least-unique}
 use Rattle.root.specs.Root.{overZero, ceilDiv, wholeRootBy, leastRoot, leastRootOver}
 
 -- ---- ceiling division
@@ -65,7 +65,7 @@ whole-by (suc k) (suc m) h = digit (suc m) _ (whole-by k (suc m / 4) (omega arit
 pub square-le : {a b : ℕ} → a ≤ b → a * a ≤ b * b
 square-le h = mul-le-mul h h
 
-up : (n r : ℕ) → Whole n r → (b : Bool) → leb n (r * r) ≡ b → Least (λ r. n ≤ r * r) (cond b r (r + 1))
+up : (n r : ℕ) → Whole n r → (b : Bool) → leb n (r * r) ≡ b → Least (λ r. r * r ≥ n) (cond b r (r + 1))
 up n r h true e = record {
   holds = omega (arith, leb-true);
   fails = λ s l c. omega (arith, square-le {a = s + 1} {b = r} (omega arith));
@@ -75,11 +75,11 @@ up n r h false e = record {
   fails = λ s l c. omega (arith, leb-false, square-le {a = s} {b = r} (omega arith));
 }
 
-pub leastRoot-least : (n : ℕ) → Least (λ r. n ≤ r * r) (leastRoot n)
+pub leastRoot-least : (n : ℕ) → Least (λ r. r * r ≥ n) (leastRoot n)
 unfolding leastRoot
 leastRoot-least n = up n (wholeRootBy n n) (whole-by n n (omega arith)) _ refl
 
-pub leastRoot-unique : (n r : ℕ) → Least (λ r. n ≤ r * r) r → r ≡ leastRoot n
+pub leastRoot-unique : (n r : ℕ) → Least (λ r. r * r ≥ n) r → r ≡ leastRoot n
 leastRoot-unique n r p = least-unique r _ p (leastRoot-least n)
 
 -- ---- the root over a factor: the law of every use of the root

@@ -4,6 +4,11 @@ use Prim.Native.Nat.{ℕ, suc, _*_, _≤_, _<_}
 use native.Mathlib.Nat.{lt-of-not-le}
 use native.Mathlib.Omega.{arith}
 
+-- an inequality with its sides as document 01 has them
+infix 50 _≥_
+abbrev pub _≥_ : ℕ → ℕ → Type 0
+a ≥ b = b ≤ a
+
 -- r is the least whole number of which P holds: P holds of r, and every smaller number fails
 pub record Least (P : ℕ → Type 0) (r : ℕ) : Type 0 where
   pub holds : P r
@@ -11,11 +16,11 @@ pub record Least (P : ℕ → Type 0) (r : ℕ) : Type 0 where
 
 -- q covers n in steps of d: what ceiling division asks of q
 abbrev pub Covers : ℕ → ℕ → ℕ → Type 0
-Covers n d q = n ≤ d * q
+Covers n d q = d * q ≥ n
 
 -- a times the square of t reaches n: what the root over a factor asks of t
 abbrev pub Reaches : ℕ → ℕ → ℕ → Type 0
-Reaches n a t = n ≤ a * (t * t)
+Reaches n a t = a * (t * t) ≥ n
 
 -- whatever satisfies P is not below the least
 pub least-most : {P : ℕ → Type 0} {r : ℕ} (t : ℕ) → Least P r → P t → r ≤ t

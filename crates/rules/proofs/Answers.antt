@@ -1,13 +1,16 @@
 -- Demand 3 of every answer, and so the promises of the calls. Assumes nothing.
-use mathlib.Core.Path.{_≡_, sym, subst}
+use mathlib.Core.Path.{_≡_, refl, sym, subst}
 use mathlib.Core.List.{List}
 use Prim.Native.Nat.{ℕ}
 use native.Mathlib.Omega.{arith}
 use Rattle.rules.specs.Plates.{smallestServing}
 use Rattle.rules.specs.Answer.{endplateSizing, blindFlangeSizing, totalOf, withPlate, fromPlates}
-use Rattle.rules.specs.Answer.{endplateAnswer, blindFlangeAnswer, causeOf, figureAt}
-use Rattle.rules.specs.Exact.{EndplateThicknessExact, EndplateExact, EndplateFigureExact}
-use Rattle.rules.specs.Exact.{ThicknessExact, EdgeExact, BlindFlangeExact, BlindFlangeFigureExact}
+use Rattle.rules.specs.Answer.{endplateAnswer, blindFlangeAnswer, Accepted, figureAt}
+use Rattle.rules.specs.Numbers.{endplateCause, endplateFigure, endplateReport}
+use Rattle.rules.specs.Numbers.{blindFlangeCause, blindFlangeFigure, blindFlangeReport}
+use Rattle.rules.specs.Exact.{EndplateThicknessExact, EndplateSized, EndplateExact, EndplateFigureExact}
+use Rattle.rules.specs.Exact.{ThicknessExact, EdgeExact, BlindFlangeSized}
+use Rattle.rules.specs.Exact.{BlindFlangeExact, BlindFlangeFigureExact}
 use Rattle.rules.specs.declared.EndplateSheet.{EndplateSheet}
 use Rattle.rules.specs.declared.EndplateFigures.{EndplateFigures}
 use Rattle.rules.specs.declared.BlindFlangeSheet.{BlindFlangeSheet}
@@ -18,6 +21,7 @@ use Rattle.rules.specs.declared.sizing.Sizing.{Sizing}
 use Rattle.rules.specs.declared.sizing.Sizing.the-variants.{Endplate, BlindFlange}
 use Rattle.rules.specs.declared.Answer.{Answer}
 use Rattle.rules.proofs.Sizings.{by-cause, within}
+use Rattle.rules.proofs.Numbers.{Told, endplate-numbers, flange-numbers}
 use Rattle.rules.proofs.Exactness.{endplate-least, thickness-near, edge-near}
 
 -- what was worked step by step is the answer from the plates
@@ -31,13 +35,13 @@ pub chosen :
 chosen plates e t c a = rw (a, c, t, e)
 
 -- an answer that is the definition's has what the definition's has
-along : (P : Answer → Type 0) {r answer : Answer} → P answer → r ≡ answer → (r ≡ answer) × P r
-along P p e = (e, subst P (sym e) p)
+along : (P : Answer → Type 0) {r answer : Answer} → P answer → r ≡ answer → P r
+along P p e = subst P (sym e) p
 
 module _ (s : EndplateSheet) where
   -- whatever the choice, the need is exact, and at its place
   abbrev Promised : Answer → Type 0
-  Promised answer = EndplateExact s answer × (causeOf answer ≡ 0 → EndplateThicknessExact s (figureAt answer 3))
+  Promised answer = Accepted answer → EndplateSized s answer × EndplateThicknessExact s (figureAt answer 3)
 
   by-choice :
       (f : EndplateFigures) →
@@ -45,25 +49,29 @@ module _ (s : EndplateSheet) where
       (choice : Choice) →
       Promised (withPlate (Endplate f) choice)
   unfolding figureAt
-  by-choice f h (Plate plate) = (h, λ z. h)
-  by-choice f h NoPlate = (tt, λ z. absurd (omega (arith, z)))
+  by-choice f h (Plate plate) z = (h, h)
+  by-choice f h NoPlate z = absurd (omega (arith, z))
 
   sized-exact : (choice : Choice) → Promised (withPlate (endplateSizing s) choice)
   unfolding endplateSizing
   sized-exact choice =
-      by-cause (λ z. Promised (withPlate z choice)) (λ cause h. (tt, λ z. absurd (h z))) _ _
+      by-cause (λ z. Promised (withPlate z choice)) (λ cause h z. absurd (h z)) _ _
       (λ e. by-choice _ (endplate-least s e) choice)
 
   module _ (plates : List ℕ) where
     pub endplate-exact : EndplateExact s (endplateAnswer s plates)
     unfolding endplateAnswer
-    endplate-exact = sized-exact _ .0
+    endplate-exact z = sized-exact _ z .0
 
-    -- the two clauses of the contract
-    pub endplate-promised :
-        {r : Answer} → r ≡ fromPlates (endplateSizing s) plates → (r ≡ endplateAnswer s plates) × EndplateExact s r
+    -- the clauses of the contract: the answer, its numbers, demand 3
+    abbrev EndplatePromised : Answer → Type 0
+    EndplatePromised r =
+        (r ≡ endplateAnswer s plates)
+        × (Told (endplateCause s plates) (endplateFigure s plates) (endplateReport s plates) r × EndplateExact s r)
+
+    pub endplate-promised : {r : Answer} → r ≡ fromPlates (endplateSizing s) plates → EndplatePromised r
     unfolding endplateAnswer
-    endplate-promised = along (EndplateExact s) endplate-exact
+    endplate-promised = along EndplatePromised (refl, (endplate-numbers s plates, endplate-exact))
 
     -- and of the one by place
     pub endplate-placed :
@@ -71,14 +79,14 @@ module _ (s : EndplateSheet) where
         r ≡ figureAt (fromPlates (endplateSizing s) plates) place →
         (r ≡ figureAt (endplateAnswer s plates) place) × EndplateFigureExact s (endplateAnswer s plates) place r
     unfolding endplateAnswer
-    endplate-placed e = (e, λ z p. rw (e, p) (sized-exact _ .1 z))
+    endplate-placed e = (e, λ z p. rw (e, p) (sized-exact _ z .1))
 
 module _ (s : BlindFlangeSheet) where
   -- whatever the choice, the need and the edge are exact, and at their places
   abbrev FlangePromised : Answer → Type 0
   FlangePromised answer =
-      BlindFlangeExact s answer
-      × (causeOf answer ≡ 0 → ThicknessExact s (figureAt answer 9) × EdgeExact s (figureAt answer 10))
+      Accepted answer →
+      BlindFlangeSized s answer × (ThicknessExact s (figureAt answer 9) × EdgeExact s (figureAt answer 10))
 
   by-flange-choice :
       (f : BlindFlangeFigures) →
@@ -86,27 +94,30 @@ module _ (s : BlindFlangeSheet) where
       (choice : Choice) →
       FlangePromised (withPlate (BlindFlange f) choice)
   unfolding figureAt
-  by-flange-choice f h (Plate plate) = (h, λ z. h)
-  by-flange-choice f h NoPlate = (tt, λ z. absurd (omega (arith, z)))
+  by-flange-choice f h (Plate plate) z = (h, h)
+  by-flange-choice f h NoPlate z = absurd (omega (arith, z))
 
   flange-sized-exact : (choice : Choice) → FlangePromised (withPlate (blindFlangeSizing s) choice)
   unfolding blindFlangeSizing
   flange-sized-exact choice =
-      by-cause (λ z. FlangePromised (withPlate z choice)) (λ cause h. (tt, λ z. absurd (h z))) _ _
+      by-cause (λ z. FlangePromised (withPlate z choice)) (λ cause h z. absurd (h z)) _ _
       (λ e. by-flange-choice _ (thickness-near s (within s e), edge-near s (within s e)) choice)
 
   module _ (plates : List ℕ) where
     pub flange-exact : BlindFlangeExact s (blindFlangeAnswer s plates)
     unfolding blindFlangeAnswer
-    flange-exact = flange-sized-exact _ .0
+    flange-exact z = flange-sized-exact _ z .0
 
-    -- the two clauses of the contract
-    pub flange-promised :
-        {r : Answer} →
-        r ≡ fromPlates (blindFlangeSizing s) plates →
-        (r ≡ blindFlangeAnswer s plates) × BlindFlangeExact s r
+    -- the clauses of the contract: the answer, its numbers, demand 3
+    abbrev BlindFlangePromised : Answer → Type 0
+    BlindFlangePromised r =
+        (r ≡ blindFlangeAnswer s plates)
+        × (Told (blindFlangeCause s plates) (blindFlangeFigure s plates) (blindFlangeReport s plates) r
+        × BlindFlangeExact s r)
+
+    pub flange-promised : {r : Answer} → r ≡ fromPlates (blindFlangeSizing s) plates → BlindFlangePromised r
     unfolding blindFlangeAnswer
-    flange-promised = along (BlindFlangeExact s) flange-exact
+    flange-promised = along BlindFlangePromised (refl, (flange-numbers s plates, flange-exact))
 
     -- and of the one by place
     pub flange-placed :
@@ -116,4 +127,4 @@ module _ (s : BlindFlangeSheet) where
         × BlindFlangeFigureExact s (blindFlangeAnswer s plates) place r
     unfolding blindFlangeAnswer
     flange-placed e =
-        (e, λ z. (λ p. rw (e, p) (flange-sized-exact _ .1 z .0), λ p. rw (e, p) (flange-sized-exact _ .1 z .1)))
+        (e, λ z. (λ p. rw (e, p) (flange-sized-exact _ z .1 .0), λ p. rw (e, p) (flange-sized-exact _ z .1 .1)))

@@ -10,20 +10,19 @@ use lib.Dec.{eqb}
 use Rattle.tables.specs.DesignStress.{designStress}
 use Rattle.tables.specs.Laws.{stress-most}
 use Rattle.root.specs.Least.{least-most}
-use Rattle.root.specs.Laws.{ceilDiv-le, leastRootOver-least}
+use Rattle.root.specs.Laws.{ceilDiv-le}
 use Rattle.rules.specs.Endplate.{formA, endplateStress, endplateThickness}
+use Rattle.rules.specs.Endplate.{endplate-factor, endplateThickness-least}
 use Rattle.rules.specs.BlindFlange.{moment, flangeLoading, flangeThickness, edgeUnder}
-use Rattle.rules.specs.Gasket.{narrow, wideWidth, effectiveWidth, reactionDiameter}
+use Rattle.rules.specs.BlindFlange.{flange-factor, flangeThickness-least, edgeUnder-least}
+use Rattle.rules.specs.Gasket.{narrow, wideWidth, wideWidth-least, effectiveWidth, reactionDiameter}
 use Rattle.rules.specs.Loads.{exactOperatingLoad, exactSeatingLoad, operatingLoad, seatingLoad, flangeLoad}
 use Rattle.rules.proofs.Products.{ring-products}
-use Rattle.rules.proofs.LeastThickness.{endplate-factor, flange-factor}
-use Rattle.rules.proofs.LeastThickness.{endplateThickness-least, flangeThickness-least, edgeUnder-least}
 
 -- ---- the gasket
 
 pub wideWidth-most : (n k : ℕ) → 31752 * n ≤ 1000 * (k * k) → wideWidth n ≤ k
-unfolding wideWidth
-wideWidth-most n k h = least-most k (leastRootOver-least (31752 * n) 1000 (omega arith)) h
+wideWidth-most n k h = least-most k (wideWidth-least n) h
 
 pub effectiveWidth-most : (n : ℕ) → n ≤ 2 ^ 10 → effectiveWidth n ≤ 2 ^ 11
 unfolding effectiveWidth
@@ -94,7 +93,7 @@ endplateThickness-most form {F} {P} {d} hF hP hd =
 module _ (S G C : ℕ) (hS : 1 ≤ S) (hG : 1 ≤ G) where
   pub flangeThickness-most : (P Wm1 : ℕ) → flangeLoading G P C Wm1 ≤ 2 ^ 64 → flangeThickness S G P C Wm1 ≤ 2 ^ 32
   flangeThickness-most P Wm1 h =
-      least-most (2 ^ 32) (flangeThickness-least S G C hS hG P Wm1) (omega (arith, flange-factor S G hS hG))
+      least-most (2 ^ 32) (flangeThickness-least S G P C Wm1 hS hG) (omega (arith, flange-factor S G hS hG))
 
   pub edgeUnder-most : (W : ℕ) → moment W C G ≤ 2 ^ 64 → edgeUnder S G C W ≤ 2 ^ 32
-  edgeUnder-most W h = least-most (2 ^ 32) (edgeUnder-least S G C hS hG W) (omega (arith, flange-factor S G hS hG))
+  edgeUnder-most W h = least-most (2 ^ 32) (edgeUnder-least S G C W hS hG) (omega (arith, flange-factor S G hS hG))

@@ -7,11 +7,11 @@ use native.Mathlib.Omega.{arith}
 use Rattle.tables.specs.DesignStress.{designStress}
 use Rattle.root.specs.Least.{Least}
 use Rattle.root.specs.Laws.{square-le}
-use Rattle.rules.specs.Endplate.{endplateStress}
+use Rattle.rules.specs.Endplate.{endplateStress, endplateThickness-least}
 use Rattle.rules.specs.Gasket.{effectiveWidth, reactionDiameter}
 use Rattle.rules.specs.Loads.{operatingLoad, seatingLoad, flangeLoad}
 use Rattle.rules.specs.Bolts.{boltArea}
-use Rattle.rules.specs.BlindFlange.{edgeUnder}
+use Rattle.rules.specs.BlindFlange.{edgeUnder, flangeThickness-least, edgeUnder-least}
 use Rattle.rules.specs.Figures.{ambient, endplateFigures, blindFlangeFigures}
 use Rattle.rules.specs.Causes.{firstCause, endplateCauses, blindFlangeLimits}
 use Rattle.rules.specs.Exact.{EndplateHolds, AmbientEdgeHolds, OperatingEdgeHolds, Near}
@@ -20,7 +20,6 @@ use Rattle.rules.specs.Exact.{exactOperatingLoadOf, exactSeatingLoadOf, 
 use Rattle.rules.specs.declared.EndplateSheet.{EndplateSheet}
 use Rattle.rules.specs.declared.BlindFlangeSheet.{BlindFlangeSheet}
 use Rattle.rules.proofs.Accepted.{BlindFlangeAccepted, endplate-accepted, blind-flange-accepted}
-use Rattle.rules.proofs.LeastThickness.{endplateThickness-least, flangeThickness-least, edgeUnder-least}
 use Rattle.rules.proofs.FlangeBounds.{Stresses, stresses, Ring, ring}
 use Rattle.rules.proofs.RoundedLoads.{operating-low, operating-high, flange-low, flange-high}
 use Rattle.rules.proofs.Accuracy.{loaded, near-map, near-both}
@@ -88,7 +87,7 @@ module _ (s : BlindFlangeSheet) (e : firstCause (blindFlangeLimits s) ≡ 0) whe
       near-map (λ t. omega arith)
       (loaded (10 ^ 10) (100 * S * G) (3 * (G * G * G) * s .pressure) Wm1 V1 (10 ^ 10) lever _ _
       (omega arith) (operating-low V1) (operating-high V1) refl
-      (flangeThickness-least S G (s .circle) (omega (arith, stress .least)) (diameter .least) (s .pressure) Wm1)
+      (flangeThickness-least S G (s .pressure) (s .circle) Wm1 (omega (arith, stress .least)) (diameter .least))
       slack-operating)
 
   edge-operating : Near (OperatingEdgeHolds S G (s .circle) V1) (edgeUnder S G (s .circle) Wm1)
@@ -96,7 +95,7 @@ module _ (s : BlindFlangeSheet) (e : firstCause (blindFlangeLimits s) ≡ 0) whe
       near-map (λ t. omega arith)
       (loaded (10 ^ 10) (100 * S * G) 0 Wm1 V1 (10 ^ 10) lever _ _
       (omega arith) (operating-low V1) (operating-high V1) (omega arith)
-      (edgeUnder-least S G (s .circle) (omega (arith, stress .least)) (diameter .least) Wm1)
+      (edgeUnder-least S G (s .circle) Wm1 (omega (arith, stress .least)) (diameter .least))
       slack-operating)
 
   abbrev A : ℕ
@@ -113,7 +112,7 @@ module _ (s : BlindFlangeSheet) (e : firstCause (blindFlangeLimits s) ≡ 0) whe
       (flange-low V1 (exactSeatingLoadOf s) A (s .sa) (s .sb) (a .sb-least) (a .ratio))
       (flange-high V1 (exactSeatingLoadOf s) A (s .sa) (s .sb) (a .sb-least) (a .ratio))
       (omega arith)
-      (edgeUnder-least S0 G (s .circle) (omega (arith, stress .ambient-least)) (diameter .least) W)
+      (edgeUnder-least S0 G (s .circle) W (omega (arith, stress .ambient-least)) (diameter .least))
       slack-ambient)
 
   pub edge-near : EdgeExact s (blindFlangeFigures s .«edge_thickness»)

@@ -58,15 +58,16 @@ module _ (s : BlindFlangeSheet) (a : BlindFlangeAccepted s) where
           omega (arith, a .area, flangeLoad-most Wm1 Wm2 A (s .sa) (s .sb) (a .sa) (a .sb-least) (a .ratio))
 
   -- the products under the roots fit, so that the thicknesses do
-  module _ {S S0 G b W Wm1 : ℕ} (t : Stresses S S0) (r : Ring G b) (h1 : Wm1 ≤ 2 ^ 30) (h : W ≤ 2 ^ 30) where
+  module _ {S S0 G b Wm1 : ℕ} (t : Stresses S S0) (r : Ring G b) (h1 : Wm1 ≤ 2 ^ 30) where
     pub thickness-most : flangeThickness S G (s .pressure) (s .circle) Wm1 ≤ 2 ^ 32
     thickness-most =
         let moment = edge-products (t .most) (r .most) (r .near) h1 in
         let bending = bending-products (r .most) (a .pressure) in
         flangeThickness-most S G (s .circle) (omega arith) (r .least) (s .pressure) Wm1 (omega arith)
 
-    pub edge-most : edgeThickness S S0 G (s .circle) Wm1 W ≤ 2 ^ 32
-    edge-most =
+    pub edge-most :
+        {W edge : ℕ} → edge ≡ edgeThickness S S0 G (s .circle) Wm1 W → W ≤ 2 ^ 30 → edge ≤ 2 ^ 32
+    edge-most {W} e h =
         let ambient-edge = edge-products (t .ambient-most) (r .most) (r .near) h in
         let operating-edge = edge-products (t .most) (r .most) (r .near) h1 in
         omega (

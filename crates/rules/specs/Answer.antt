@@ -1,14 +1,17 @@
 -- The answers of the two calculations, and document 01's numbers for each case of an answer.
 use Prim.Native.Nat.{ℕ}
 use mathlib.Core.Bool.{cond}
-use mathlib.Core.List.{List, [], _∷_}
+use mathlib.Core.List.{List, [], _∷_, _++_}
+use mathlib.Core.Path.{_≡_}
 use lib.Dec.{eqb}
 use lib.ListN.{getD}
 use Rattle.rules.specs.Causes.{firstCause, endplateCauses, blindFlangeCauses}
 use Rattle.rules.specs.Figures.{endplateFigures, blindFlangeFigures}
 use Rattle.rules.specs.Plates.{smallestServing}
 use Rattle.rules.specs.declared.EndplateSheet.{EndplateSheet}
+use Rattle.rules.specs.declared.EndplateFigures.{EndplateFigures}
 use Rattle.rules.specs.declared.BlindFlangeSheet.{BlindFlangeSheet}
+use Rattle.rules.specs.declared.BlindFlangeFigures.{BlindFlangeFigures}
 use Rattle.rules.specs.declared.plates.Choice.{Choice}
 use Rattle.rules.specs.declared.plates.Choice.the-variants.{Plate, NoPlate}
 use Rattle.rules.specs.declared.sizing.Sizing.{Sizing}
@@ -62,18 +65,23 @@ causeOf (Endplate f plate) = 0
 causeOf (BlindFlange f plate) = 0
 causeOf (Refused cause figure) = cause
 
+-- accepted: no cause is met. 15 is not among these causes, since it is about the lent space alone
+abbrev pub Accepted : Answer → Type 0
+Accepted answer = causeOf answer ≡ 0
+
 -- the figure returned with the cause
 abbrev pub figureOf : Answer → ℕ
 figureOf (Endplate f plate) = 0
 figureOf (BlindFlange f plate) = 0
 figureOf (Refused cause figure) = figure
 
--- the report's figures, in report order
-abbrev pub reportOf : Answer → List ℕ
--- stress, need, total, plate
-reportOf (Endplate f plate) = f .«design_stress» ∷ f .thickness ∷ f .total ∷ plate ∷ []
--- stress, cold, g, b, wm1, wm2, w, need, edge, total, plate
-reportOf (BlindFlange f plate) =
+-- the figures of an endplate's report but for the plate: stress, need, total
+abbrev pub endplateList : EndplateFigures → List ℕ
+endplateList f = f .«design_stress» ∷ f .thickness ∷ f .total ∷ []
+
+-- those of a blind flange's: stress, cold, g, b, wm1, wm2, w, need, edge, total
+abbrev pub blindFlangeList : BlindFlangeFigures → List ℕ
+blindFlangeList f =
     f .«design_stress»
     ∷ f .«ambient_stress»
     ∷ f .«reaction_diameter»
@@ -84,8 +92,12 @@ reportOf (BlindFlange f plate) =
     ∷ f .thickness
     ∷ f .«edge_thickness»
     ∷ f .total
-    ∷ plate
     ∷ []
+
+-- the report's figures, in report order; the plate is the last
+abbrev pub reportOf : Answer → List ℕ
+reportOf (Endplate f plate) = endplateList f ++ plate ∷ []
+reportOf (BlindFlange f plate) = blindFlangeList f ++ plate ∷ []
 reportOf (Refused cause figure) = []
 
 -- by place, for C: 0 the cause, 1 its figure, from 2 on the report's figures; any other place 0

@@ -2,13 +2,13 @@
 use Prim.Native.Nat.{ℕ, _+_, _-_, _*_, _^_, _≤_}
 use mathlib.Core.Path.{_≡_}
 use Rattle.tables.specs.DesignStress.{designStress}
-use Rattle.root.specs.Least.{Least}
+use Rattle.root.specs.Least.{_≥_, Least}
 use Rattle.rules.specs.Endplate.{endplateStress, formFactor}
 use Rattle.rules.specs.Gasket.{effectiveWidth, reactionDiameter}
 use Rattle.rules.specs.Loads.{exactOperatingLoad, exactSeatingLoad, exactFlangeLoad}
 use Rattle.rules.specs.Bolts.{boltArea}
 use Rattle.rules.specs.Figures.{ambient}
-use Rattle.rules.specs.Answer.{causeOf}
+use Rattle.rules.specs.Answer.{Accepted}
 use Rattle.rules.specs.declared.EndplateSheet.{EndplateSheet}
 use Rattle.rules.specs.declared.BlindFlangeSheet.{BlindFlangeSheet}
 use Rattle.rules.specs.declared.Answer.{Answer}
@@ -18,18 +18,18 @@ use Rattle.rules.specs.declared.Answer.the-variants.{Endplate, BlindFlan
 
 -- need of an endplate: 40·F·T² ≥ P·d², or 30·F·T² ≥ P·d² for form d
 abbrev pub EndplateHolds : ℕ → ℕ → ℕ → ℕ → ℕ → Type 0
-EndplateHolds form F P d T = P * (d * d) ≤ formFactor form * F * (T * T)
+EndplateHolds form F P d T = formFactor form * F * (T * T) ≥ P * (d * d)
 
 -- need of a blind flange: 10¹²·S·G·e² ≥ 3·10¹⁰·G³·P + 954500·V1·(C − G)
 abbrev pub ThicknessHolds : ℕ → ℕ → ℕ → ℕ → ℕ → ℕ → Type 0
-ThicknessHolds S G P C V1 e = 3 * 10 ^ 10 * (G * G * G) * P + 954500 * V1 * (C - G) ≤ 10 ^ 12 * S * G * (e * e)
+ThicknessHolds S G P C V1 e = 10 ^ 12 * S * G * (e * e) ≥ 3 * 10 ^ 10 * (G * G * G) * P + 954500 * V1 * (C - G)
 
 -- edge: both 2·10¹³·sb·S0·G·edge² ≥ 954500·V·(C − G) and 10¹²·S·G·edge² ≥ 954500·V1·(C − G)
 abbrev pub AmbientEdgeHolds : ℕ → ℕ → ℕ → ℕ → ℕ → ℕ → Type 0
-AmbientEdgeHolds sb S0 G C «V» edge = 954500 * «V» * (C - G) ≤ 2 * 10 ^ 13 * sb * S0 * G * (edge * edge)
+AmbientEdgeHolds sb S0 G C «V» edge = 2 * 10 ^ 13 * sb * S0 * G * (edge * edge) ≥ 954500 * «V» * (C - G)
 
 abbrev pub OperatingEdgeHolds : ℕ → ℕ → ℕ → ℕ → ℕ → Type 0
-OperatingEdgeHolds S G C V1 edge = 954500 * V1 * (C - G) ≤ 10 ^ 12 * S * G * (edge * edge)
+OperatingEdgeHolds S G C V1 edge = 10 ^ 12 * S * G * (edge * edge) ≥ 954500 * V1 * (C - G)
 
 -- ---- the demand
 
@@ -44,14 +44,18 @@ EndplateThicknessExact s thickness =
     let F = endplateStress (s .form) (s .material) (s .shell) (s .temperature) in
     Least (EndplateHolds (s .form) F (s .pressure) (s .diameter)) thickness
 
-abbrev pub EndplateExact : EndplateSheet → Answer → Type 0
-EndplateExact s (Endplate f plate) = EndplateThicknessExact s (f .thickness)
-EndplateExact s (BlindFlange f plate) = ⊥
-EndplateExact s (Refused cause figure) = Unit
+-- an answer that has an endplate's figures, with such a need
+abbrev pub EndplateSized : EndplateSheet → Answer → Type 0
+EndplateSized s (Endplate f plate) = EndplateThicknessExact s (f .thickness)
+EndplateSized s (BlindFlange f plate) = ⊥
+EndplateSized s (Refused cause figure) = ⊥
 
--- by place, for C: where the call accepts, its figure r is exact at the place of the need
+abbrev pub EndplateExact : EndplateSheet → Answer → Type 0
+EndplateExact s answer = Accepted answer → EndplateSized s answer
+
+-- by place, for C: the figure r of an accepted call is exact at the place of the need
 abbrev pub EndplateFigureExact : EndplateSheet → Answer → ℕ → ℕ → Type 0
-EndplateFigureExact s answer place r = causeOf answer ≡ 0 → place ≡ 3 → EndplateThicknessExact s r
+EndplateFigureExact s answer place r = Accepted answer → place ≡ 3 → EndplateThicknessExact s r
 
 -- the exact loads of a sheet: V1, V2 and V
 abbrev pub exactOperatingLoadOf : BlindFlangeSheet → ℕ
@@ -84,12 +88,16 @@ EdgeExact s edge =
     (λ t. AmbientEdgeHolds (s .sb) S0 G C (exactFlangeLoadOf s) t × OperatingEdgeHolds S G C (exactOperatingLoadOf s) t)
     edge
 
+-- an answer that has a blind flange's figures, with such a need and edge
+abbrev pub BlindFlangeSized : BlindFlangeSheet → Answer → Type 0
+BlindFlangeSized s (Endplate f plate) = ⊥
+BlindFlangeSized s (BlindFlange f plate) = ThicknessExact s (f .thickness) × EdgeExact s (f .«edge_thickness»)
+BlindFlangeSized s (Refused cause figure) = ⊥
+
 abbrev pub BlindFlangeExact : BlindFlangeSheet → Answer → Type 0
-BlindFlangeExact s (Endplate f plate) = ⊥
-BlindFlangeExact s (BlindFlange f plate) = ThicknessExact s (f .thickness) × EdgeExact s (f .«edge_thickness»)
-BlindFlangeExact s (Refused cause figure) = Unit
+BlindFlangeExact s answer = Accepted answer → BlindFlangeSized s answer
 
 -- by place, for C: at the places of the need and of the edge
 abbrev pub BlindFlangeFigureExact : BlindFlangeSheet → Answer → ℕ → ℕ → Type 0
 BlindFlangeFigureExact s answer place r =
-    causeOf answer ≡ 0 → (place ≡ 9 → ThicknessExact s r) × (place ≡ 10 → EdgeExact s r)
+    Accepted answer → (place ≡ 9 → ThicknessExact s r) × (place ≡ 10 → EdgeExact s r)

@@ -3,7 +3,10 @@
 use Prim.Native.Nat.{ℕ, _-_, _*_}
 use mathlib.Core.Bool.{Bool, cond}
 use lib.Dec.{leb}
+use native.Mathlib.Omega.{arith}
+use Rattle.root.specs.Least.{_≥_, Least}
 use Rattle.root.specs.Root.{leastRootOver}
+use Rattle.root.specs.Laws.{leastRootOver-least}
 
 -- n ≤ 126: b_o, half of n, is not above 6.3 mm
 abbrev pub narrow : ℕ → Bool
@@ -12,6 +15,10 @@ narrow n = leb n 126
 -- k: the least whole number with 1000·k² ≥ 31752·n, which is 2.52·√b_o taken up to the tenth of a mm
 unfoldable pub wideWidth : ℕ → ℕ
 wideWidth n = leastRootOver (31752 * n) 1000
+
+pub wideWidth-least : (n : ℕ) → Least (λ k. 1000 * (k * k) ≥ 31752 * n) (wideWidth n)
+unfolding wideWidth
+wideWidth-least n = leastRootOver-least (31752 * n) 1000 (omega arith)
 
 -- b: 5·n, or 10·k
 unfoldable pub effectiveWidth : ℕ → ℕ

@@ -8,4 +8,5 @@ pub mod Plates
 pub mod Figures
 pub mod Causes
 pub mod Answer
+pub mod Numbers
 pub mod Exact

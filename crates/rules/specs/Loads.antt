@@ -1,7 +1,10 @@
 -- Bolt loads (document 01, Blind flanges; ASME Section VIII Division 1, Appendix 2), in N. G in tenths of a mm, b in
 -- hundredths; m in hundredths, y in tenths of N/mm²; P in thousandths of N/mm²; A in tenths of mm², sa and sb in N/mm².
-use Prim.Native.Nat.{ℕ, _+_, _*_, _^_, max}
+use Prim.Native.Nat.{ℕ, _+_, _*_, _^_, max, _≤_}
+use native.Mathlib.Omega.{arith}
+use Rattle.root.specs.Least.{_≥_, Least}
 use Rattle.root.specs.Root.{ceilDiv}
+use Rattle.root.specs.Laws.{ceilDiv-least}
 
 -- ---- exact: fractions multiplied out to whole numbers
 
@@ -23,10 +26,32 @@ exactFlangeLoad V1 V2 A sa sb = max (10 * V1 * sa) (10 ^ 5 * V2 * sb) + 10 ^ 10 
 unfoldable pub operatingLoad : ℕ → ℕ
 operatingLoad V1 = ceilDiv V1 (10 ^ 10)
 
+pub operatingLoad-least :
+    (G b m P : ℕ) →
+    Least
+    (λ Wm1. 10 ^ 10 * Wm1 ≥ 78500 * (G * G) * P + 628 * b * G * m * P)
+    (operatingLoad (exactOperatingLoad G b m P))
+unfolding exactOperatingLoad operatingLoad
+operatingLoad-least G b m P = ceilDiv-least _ (10 ^ 10) (omega arith)
+
 -- Wm2: the least with 10⁶·Wm2 ≥ V2
 unfoldable pub seatingLoad : ℕ → ℕ
 seatingLoad V2 = ceilDiv V2 (10 ^ 6)
 
+pub seatingLoad-least :
+    (G b y : ℕ) → Least (λ Wm2. 10 ^ 6 * Wm2 ≥ 314 * b * G * y) (seatingLoad (exactSeatingLoad G b y))
+unfolding exactSeatingLoad seatingLoad
+seatingLoad-least G b y = ceilDiv-least _ (10 ^ 6) (omega arith)
+
 -- W: the least with 20·sb·W ≥ the greater of 10·Wm1·sa and 10·Wm2·sb, plus A·sa·sb
 unfoldable pub flangeLoad : ℕ → ℕ → ℕ → ℕ → ℕ → ℕ
 flangeLoad Wm1 Wm2 A sa sb = ceilDiv (max (10 * Wm1 * sa) (10 * Wm2 * sb) + A * sa * sb) (20 * sb)
+
+pub flangeLoad-least :
+    (Wm1 Wm2 A sa sb : ℕ) →
+    1 ≤ sb →
+    Least
+    (λ W. 20 * sb * W ≥ max (10 * Wm1 * sa) (10 * Wm2 * sb) + A * sa * sb)
+    (flangeLoad Wm1 Wm2 A sa sb)
+unfolding flangeLoad
+flangeLoad-least Wm1 Wm2 A sa sb some = ceilDiv-least _ (20 * sb) (omega arith)

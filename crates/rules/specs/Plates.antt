@@ -24,6 +24,11 @@ better total choice plate = cond (serves total plate && smaller plate choice) (P
 unfoldable pub smallestServing : ℕ → List ℕ → Choice
 smallestServing total plates = foldl (better total) NoPlate plates
 
+-- plate: the one chosen; 0 where there is none
+abbrev pub plateOf : Choice → ℕ
+plateOf (Plate plate) = plate
+plateOf NoPlate = 0
+
 -- ---- C's plates: bytes, four to a plate, lowest first; a remainder of fewer than four is not read
 
 abbrev pub lowestFirst : ℕ → ℕ → ℕ → ℕ → ℕ

@@ -115,15 +115,22 @@ pub(crate) fn endplate_cause(s: EndplateSheet) -> u32
     ensures { λ r. ⌜ r ≡ firstCause (endplateCauses s) ⌝ }
 {
     let stress = endplate_stress(s.form, s.material, s.shell, s.temperature);
-    let k = or_cause(0, 2, form_refused(s.form));
-    let k = or_cause(k, 2, material_refused(s.material));
-    let k = or_cause(k, 2, shell_refused(s.form, s.shell));
-    let k = or_cause(k, 3, pressure_refused(s.pressure));
-    let k = or_cause(k, 4, temperature_refused(s.temperature));
-    let k = or_cause(k, 5, no_stress(stress));
-    let k = or_cause(k, 6, diameter_refused(s.diameter));
-    let k = or_cause(k, 7, allowance_refused(s.allowance));
-    k
+    let form = form_refused(s.form);
+    let material = material_refused(s.material);
+    let shell = shell_refused(s.form, s.shell);
+    let pressure = pressure_refused(s.pressure);
+    let temperature = temperature_refused(s.temperature);
+    let unstressed = no_stress(stress);
+    let diameter = diameter_refused(s.diameter);
+    let allowance = allowance_refused(s.allowance);
+    let k = or_cause(0, 2, form);
+    let k = or_cause(k, 2, material);
+    let k = or_cause(k, 2, shell);
+    let k = or_cause(k, 3, pressure);
+    let k = or_cause(k, 4, temperature);
+    let k = or_cause(k, 5, unstressed);
+    let k = or_cause(k, 6, diameter);
+    or_cause(k, 7, allowance)
 }
 
 // The first cause that applies to a blind flange, of 2 to 12; 0 where none does.
@@ -132,16 +139,26 @@ pub(crate) fn blind_flange_limits(s: BlindFlangeSheet) -> u32
 {
     let stress = tables::design_stress(s.material, s.temperature);
     let g = reaction_diameter(s.od, s.width);
-    let k = or_cause(0, 2, material_refused(s.material));
-    let k = or_cause(k, 3, pressure_refused(s.pressure));
-    let k = or_cause(k, 4, temperature_refused(s.temperature));
-    let k = or_cause(k, 5, no_stress(stress));
-    let k = or_cause(k, 6, diameter_refused(s.od));
-    let k = or_cause(k, 7, allowance_refused(s.allowance));
-    let k = or_cause(k, 8, width_refused(s.od, s.width));
-    let k = or_cause(k, 9, gasket_refused(s.m, s.y));
-    let k = or_cause(k, 10, bolts_refused(s.bolt, s.root, s.count));
-    let k = or_cause(k, 11, bolt_stress_refused(s.sa, s.sb));
-    let k = or_cause(k, 12, circle_refused(s.circle, s.od, s.bolt, g));
-    k
+    let material = material_refused(s.material);
+    let pressure = pressure_refused(s.pressure);
+    let temperature = temperature_refused(s.temperature);
+    let unstressed = no_stress(stress);
+    let diameter = diameter_refused(s.od);
+    let allowance = allowance_refused(s.allowance);
+    let width = width_refused(s.od, s.width);
+    let gasket = gasket_refused(s.m, s.y);
+    let bolts = bolts_refused(s.bolt, s.root, s.count);
+    let bolt_stress = bolt_stress_refused(s.sa, s.sb);
+    let circle = circle_refused(s.circle, s.od, s.bolt, g);
+    let k = or_cause(0, 2, material);
+    let k = or_cause(k, 3, pressure);
+    let k = or_cause(k, 4, temperature);
+    let k = or_cause(k, 5, unstressed);
+    let k = or_cause(k, 6, diameter);
+    let k = or_cause(k, 7, allowance);
+    let k = or_cause(k, 8, width);
+    let k = or_cause(k, 9, gasket);
+    let k = or_cause(k, 10, bolts);
+    let k = or_cause(k, 11, bolt_stress);
+    or_cause(k, 12, circle)
 }

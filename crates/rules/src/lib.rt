@@ -1,7 +1,10 @@
 // Sizing of flat endplates and blind flanges to BS 853-2:1996, clauses 5 and 8, on whole numbers.
 ghost use mathlib.Core.Path.{_≡_};
-ghost use Rattle.rules.specs.Answer.{endplateAnswer, blindFlangeAnswer, figureAt};
+ghost use Rattle.rules.specs.Answer.{endplateAnswer, blindFlangeAnswer};
+ghost use Rattle.rules.specs.Answer.{causeOf, figureOf, reportOf, figureAt};
 ghost use Rattle.rules.specs.Exact.{EndplateExact, EndplateFigureExact, BlindFlangeExact, BlindFlangeFigureExact};
+ghost use Rattle.rules.specs.Numbers.{endplateCause, endplateFigure, endplateReport};
+ghost use Rattle.rules.specs.Numbers.{blindFlangeCause, blindFlangeFigure, blindFlangeReport};
 ghost use Rattle.rules.specs.Plates.{platesIn};
 
 mod bolts;
@@ -132,6 +135,9 @@ pub enum Answer {
 // The size of an endplate from a list of plates, or the first cause to refuse it.
 pub fn endplate(s: EndplateSheet, plates: &[u32]) -> Answer
     ensures { λ r. ⌜ r ≡ endplateAnswer s (now (plates .entry)) ⌝ }
+    ensures numbers { λ r.
+        let ps = now (plates .entry) in
+        ⌜ (causeOf r ≡ endplateCause s ps) × (figureOf r ≡ endplateFigure s ps) × (reportOf r ≡ endplateReport s ps) ⌝ }
     ensures exact { λ r. ⌜ EndplateExact s r ⌝ }
 {
     let sizing = endplate_sizing(s);
@@ -142,6 +148,11 @@ pub fn endplate(s: EndplateSheet, plates: &[u32]) -> Answer
 // The size of a blind flange from a list of plates, or the first cause to refuse it.
 pub fn blind_flange(s: BlindFlangeSheet, plates: &[u32]) -> Answer
     ensures { λ r. ⌜ r ≡ blindFlangeAnswer s (now (plates .entry)) ⌝ }
+    ensures numbers { λ r.
+        let ps = now (plates .entry) in
+        ⌜ (causeOf r ≡ blindFlangeCause s ps)
+        × (figureOf r ≡ blindFlangeFigure s ps)
+        × (reportOf r ≡ blindFlangeReport s ps) ⌝ }
     ensures exact { λ r. ⌜ BlindFlangeExact s r ⌝ }
 {
     let sizing = blind_flange_sizing(s);

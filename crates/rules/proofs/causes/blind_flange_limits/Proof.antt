@@ -1,7 +1,7 @@
 -- `causes::blind_flange_limits` meets its contract: row by row in rising order. Assumes nothing.
 use mathlib.Core.Path.{refl, _∙_}
 use borrow.Author.Needs.{needs}
-use Rattle.rules.specs.Causes.{noStress, circleRefused, blindFlangeLimits}
+use Rattle.rules.specs.Causes.{any, noStress, boltsRefused, circleRefused, blindFlangeLimits}
 use Rattle.rules.proofs.Order.{in-order, then, via}
 use Rattle.rules.proofs.causes.blind_flange_limits.Statement.{statement}
 use Rattle.rules.proofs.causes.blind_flange_limits.Tie as tie
@@ -9,31 +9,43 @@ use Rattle.rules.proofs.causes.blind_flange_limits.Tie as tie
 returns : tie.Need-returns
 unfolding blindFlangeLimits
 returns c =
-    let r10 = c .before .before in
-    let r9 = r10 .before .before in
-    let r8 = r9 .before .before in
-    let r7 = r8 .before .before in
-    let r6 = r7 .before .before in
-    let r5 = r6 .before .before in
-    let r4 = r5 .before .before in
-    let r3 = r4 .before .before in
-    let r2 = r3 .before .before in
-    let r1 = r2 .before .before in
-    let b = r1 .before .before in
-    let a = b .before .before .args .s in
-    let k1 = then 2 {before = 0} (r1 .or-cause .ensures) refl (r1 .before .material-refused .ensures) in
-    let k2 = then 3 (r2 .or-cause2 .ensures) k1 (r2 .before .pressure-refused .ensures) in
-    let k3 = then 4 (r3 .or-cause3 .ensures) k2 (r3 .before .temperature-refused .ensures) in
-    let stressed = via noStress (r4 .before .no-stress .ensures) (b .before .design-stress .ensures) in
+    let r10 = c .before in
+    let r9 = r10 .before in
+    let r8 = r9 .before in
+    let r7 = r8 .before in
+    let r6 = r7 .before in
+    let r5 = r6 .before in
+    let r4 = r5 .before in
+    let r3 = r4 .before in
+    let r2 = r3 .before in
+    let r1 = r2 .before in
+    let circle = r1 .before in
+    let stresses = circle .before in
+    let bolts = stresses .before in
+    let gasket = bolts .before in
+    let width = gasket .before in
+    let allowance = width .before in
+    let diameter = allowance .before in
+    let unstressed = diameter .before in
+    let temperature = unstressed .before in
+    let pressure = temperature .before in
+    let material = pressure .before in
+    let g = material .before in
+    let a = g .before .before .args .s in
+    let k1 = then 2 {before = 0} (r1 .or-cause .ensures) refl (material .material-refused .ensures) in
+    let k2 = then 3 (r2 .or-cause2 .ensures) k1 (pressure .pressure-refused .ensures) in
+    let k3 = then 4 (r3 .or-cause3 .ensures) k2 (temperature .temperature-refused .ensures) in
+    let stressed = via noStress (unstressed .no-stress .ensures) (g .before .design-stress .ensures) in
     let k4 = then 5 (r4 .or-cause4 .ensures) k3 stressed in
-    let k5 = then 6 (r5 .or-cause5 .ensures) k4 (r5 .before .diameter-refused .ensures) in
-    let k6 = then 7 (r6 .or-cause6 .ensures) k5 (r6 .before .allowance-refused .ensures) in
-    let k7 = then 8 (r7 .or-cause7 .ensures) k6 (r7 .before .width-refused .ensures) in
-    let k8 = then 9 (r8 .or-cause8 .ensures) k7 (r8 .before .gasket-refused .ensures) in
-    let k9 = then 10 (r9 .or-cause9 .ensures) k8 (r9 .before .bolts-refused .ensures) in
-    let k10 = then 11 (r10 .or-cause10 .ensures) k9 (r10 .before .bolt-stress-refused .ensures) in
+    let k5 = then 6 (r5 .or-cause5 .ensures) k4 (diameter .diameter-refused .ensures) in
+    let k6 = then 7 (r6 .or-cause6 .ensures) k5 (allowance .allowance-refused .ensures) in
+    let k7 = then 8 (r7 .or-cause7 .ensures) k6 (width .width-refused .ensures) in
+    let k8 = then 9 (r8 .or-cause8 .ensures) k7 (gasket .gasket-refused .ensures) in
+    let bolted = any (boltsRefused (a .bolt) (a .root) (a .count)) in
+    let k9 = then 10 {b = bolted} (r9 .or-cause9 .ensures) k8 (bolts .bolts-refused .ensures) in
+    let k10 = then 11 (r10 .or-cause10 .ensures) k9 (stresses .bolt-stress-refused .ensures) in
     let test = circleRefused (a .circle) (a .od) (a .bolt) in
-    let circled = via test (c .before .circle-refused .ensures) (b .reaction-diameter .ensures) in
+    let circled = via test (circle .circle-refused .ensures) (g .reaction-diameter .ensures) in
     let k11 = then 12 (c .or-cause11 .ensures) k10 circled in
     k11 ∙ in-order (blindFlangeLimits a) tt
 

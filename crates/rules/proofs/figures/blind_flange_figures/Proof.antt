@@ -71,7 +71,8 @@ edge-thickness-requires : tie.Need-edge-thickness-requires
 edge-thickness-requires c κs =
     let e = c .before .before .before .before .before in
     let w = operating (c .before .before .before .before) in
-    omega (arith, stresses (e .before .before), ring e, w, flange (c .before))
+    let w2 = seating (c .before .before .before) in
+    omega (arith, stresses (e .before .before), ring e, w, w2, flange (c .before))
 
 total-fits : tie.Need-add-t17
 total-fits c =
@@ -87,10 +88,10 @@ total-fits c =
       arith,
       a .allowance,
       g .greater .ensures,
-      g .before .edge-thickness .ensures,
       g .before .before .flange-thickness .ensures,
-      bounds.thickness-most (b .args .s) a t (ring e) w (flange f),
-      bounds.edge-most (b .args .s) a t (ring e) w (flange f),
+      bounds.thickness-most (b .args .s) a t (ring e) w,
+      bounds.edge-most (b .args .s) a t (ring e) w (g .before .edge-thickness .ensures)
+          (omega (arith, seating (f .before .before), flange f)),
     )
 
 returns : tie.Need-returns

@@ -11,13 +11,13 @@ returns : tie.Need-returns
 unfolding endplateThickness
 returns c =
     let form = c .before .before .args .form in
-    simp (eq-eqb form formD (omega arith)) (c .least-root-over .ensures)
+    simp (eq-eqb form formD (omega arith)) (rw (c .least-root-over .ensures))
 
 returns-2 : tie.Need-returns-2
 unfolding endplateThickness
 returns-2 c =
     let form = c .before .before .args .form in
-    simp (ne-eqb form formD (omega arith)) (c .least-root-over2 .ensures)
+    simp (ne-eqb form formD (omega arith)) (rw (c .least-root-over2 .ensures))
 
 pub endplate-thickness-spec : {M : Type 1} → statement M
 endplate-thickness-spec =

@@ -1,0 +1,149 @@
+-- An answer in document 01's numbers: those that follow from what the calculation is given. Assumes nothing.
+use mathlib.Core.Path.{_≡_, refl, sym, ap, _∙_}
+use mathlib.Core.Bool.{Bool, true, false, _&&_, _||_, not, cond}
+use mathlib.Core.List.{List, [], _∷_, _++_, foldl, map}
+use Prim.Native.Nat.{ℕ, _<_}
+use native.Mathlib.Omega.{arith}
+use borrow.Author.Tests.{ne-eqb}
+use lib.Dec.{T, eqb, ltb, ltb→lt}
+use Rattle.tables.specs.TableRule.{every, both}
+use Rattle.rules.specs.Causes.{any, Causes, firstCause, endplateCauses}
+use Rattle.rules.specs.Causes.{blindFlangeLimits, blindFlangeCauses}
+use Rattle.rules.specs.Figures.{endplateFigures, blindFlangeFigures}
+use Rattle.rules.specs.Plates.{serves, smaller, better, smallestServing, plateOf}
+use Rattle.rules.specs.Answer.{refusedOr, totalOf, withPlate, fromPlates, causeOf, figureOf, reportOf}
+use Rattle.rules.specs.Answer.{endplateList, blindFlangeList, endplateSizing, blindFlangeSizing}
+use Rattle.rules.specs.Answer.{endplateAnswer, blindFlangeAnswer}
+use Rattle.rules.specs.Numbers.{causeFrom, figureFrom, reportFrom}
+use Rattle.rules.specs.Numbers.{endplateCause, endplateFigure, endplateReport}
+use Rattle.rules.specs.Numbers.{blindFlangeCause, blindFlangeFigure, blindFlangeReport}
+use Rattle.rules.specs.declared.EndplateSheet.{EndplateSheet}
+use Rattle.rules.specs.declared.EndplateFigures.{EndplateFigures}
+use Rattle.rules.specs.declared.BlindFlangeSheet.{BlindFlangeSheet}
+use Rattle.rules.specs.declared.BlindFlangeFigures.{BlindFlangeFigures}
+use Rattle.rules.specs.declared.plates.Choice.{Choice}
+use Rattle.rules.specs.declared.plates.Choice.the-variants.{Plate, NoPlate}
+use Rattle.rules.specs.declared.sizing.Sizing.{Sizing}
+use Rattle.rules.specs.declared.sizing.Sizing.the-variants.{Endplate, BlindFlange, Refused}
+use Rattle.rules.specs.declared.Answer.{Answer}
+use Rattle.rules.proofs.Order.{numbered, in-turn}
+
+-- ---- a plate is chosen exactly where one serves
+
+abbrev chosen : Choice → Bool
+chosen (Plate plate) = true
+chosen NoPlate = false
+
+module _ (total : ℕ) where
+  one-more : (c : Choice) (plate : ℕ) → chosen (better total c plate) ≡ (chosen c || serves total plate)
+  one-more (Plate p) plate = by-test (serves total plate && smaller plate (Plate p))
+    where
+      by-test : (b : Bool) → chosen (cond b (Plate plate) (Plate p)) ≡ true
+      by-test true = refl
+      by-test false = refl
+  one-more NoPlate plate = by-test (serves total plate)
+    where
+      by-test : (b : Bool) → chosen (cond (b && true) (Plate plate) NoPlate) ≡ b
+      by-test true = refl
+      by-test false = refl
+
+  all-of-them :
+      (plates : List ℕ) (c : Choice) →
+      chosen (foldl (better total) c plates) ≡ foldl _||_ (chosen c) (map (serves total) plates)
+  all-of-them [] c = refl
+  all-of-them (plate ∷ plates) c =
+      all-of-them plates (better total c plate)
+      ∙ ap (λ (b : Bool). foldl _||_ b (map (serves total) plates)) (one-more c plate)
+
+  pub chosen-serves : (plates : List ℕ) → any (map (serves total) plates) ≡ chosen (smallestServing total plates)
+  unfolding smallestServing
+  chosen-serves plates = sym (all-of-them plates NoPlate)
+
+-- ---- the causes before 14
+
+-- a cause's number is below 14
+abbrev early : ℕ × List Bool → Bool
+early c = ltb (c .0) 14
+
+first-early : (cs : Causes) → T (every early cs) → firstCause cs < 14
+first-early [] t = omega arith
+first-early (c ∷ cs) t =
+    let p = both (early c) (every early cs) t in
+    by-test (any (c .1)) (ltb→lt (c .0) 14 (p .0)) (first-early cs (p .1))
+  where
+    by-test : (b : Bool) → c .0 < 14 → firstCause cs < 14 → cond b (c .0) (firstCause cs) < 14
+    by-test true h r = h
+    by-test false h r = r
+
+-- ---- the numbers
+
+abbrev pub Told : ℕ → ℕ → List ℕ → Answer → Type 0
+Told cause figure report answer = (causeOf answer ≡ cause) × (figureOf answer ≡ figure) × (reportOf answer ≡ report)
+
+-- where nothing before 14 applies: 14 if no plate was chosen
+abbrev lastCause : Choice → ℕ
+lastCause c = cond (not (chosen c)) 14 0
+
+-- the numbers of what is sized, with a choice
+abbrev Last : Sizing → List ℕ → Choice → Type 0
+Last sized figures c =
+    Told
+    (lastCause c)
+    (figureFrom (lastCause c) (totalOf sized))
+    (cond (eqb (lastCause c) 0) (figures ++ plateOf c ∷ []) [])
+    (withPlate sized c)
+
+-- from the causes, the figures and the plates; `sized` is what is answered where no cause applies
+module _ (cs : Causes) (t : T (every numbered cs)) (e : T (every early cs)) (sized : Sizing) (figures plates : List ℕ)
+  where
+    abbrev total : ℕ
+    total = totalOf sized
+
+    abbrev choice : Choice
+    choice = smallestServing total plates
+
+    cause : causeFrom cs total plates ≡ cond (eqb (firstCause cs) 0) (lastCause choice) (firstCause cs)
+    cause = in-turn cs _ t ∙ rw (chosen-serves total plates)
+
+    pub told :
+        ((c : Choice) → Last sized figures c) →
+        let k = causeFrom cs total plates in
+        Told
+        k (figureFrom k total) (reportFrom k figures total plates)
+        (fromPlates (refusedOr (firstCause cs) sized) plates)
+    told last = rw cause (by-test (eqb (firstCause cs) 0) refl)
+      where
+        by-test :
+            (b : Bool) →
+            eqb (firstCause cs) 0 ≡ b →
+            let k = cond b (lastCause choice) (firstCause cs) in
+            Told
+            k (figureFrom k total) (reportFrom k figures total plates)
+            (fromPlates (cond b sized (Refused (firstCause cs))) plates)
+        by-test true z = last choice
+        by-test false z =
+            (refl, rw (ne-eqb (firstCause cs) 14 (λ q. omega (arith, first-early cs e))), rw z)
+
+-- ---- both parts
+
+by-choice : (f : EndplateFigures) (c : Choice) → Last (Endplate f) (endplateList f) c
+by-choice f (Plate plate) = (refl, refl, refl)
+by-choice f NoPlate = (refl, refl, refl)
+
+by-flange-choice : (f : BlindFlangeFigures) (c : Choice) → Last (BlindFlange f) (blindFlangeList f) c
+by-flange-choice f (Plate plate) = (refl, refl, refl)
+by-flange-choice f NoPlate = (refl, refl, refl)
+
+pub endplate-numbers : (s : EndplateSheet) (plates : List ℕ) →
+    Told (endplateCause s plates) (endplateFigure s plates) (endplateReport s plates) (endplateAnswer s plates)
+unfolding endplateCauses endplateSizing endplateAnswer endplateCause endplateFigure endplateReport
+endplate-numbers s plates =
+    told (endplateCauses s) tt tt (Endplate (endplateFigures s)) (endplateList (endplateFigures s)) plates
+    (by-choice (endplateFigures s))
+
+pub flange-numbers : (s : BlindFlangeSheet) (plates : List ℕ) →
+    Told (blindFlangeCause s plates) (blindFlangeFigure s plates) (blindFlangeReport s plates) (blindFlangeAnswer s plates)
+unfolding blindFlangeLimits blindFlangeCauses blindFlangeSizing blindFlangeAnswer blindFlangeCause blindFlangeFigure blindFlangeReport
+flange-numbers s plates =
+    told (blindFlangeCauses s) tt tt (BlindFlange (blindFlangeFigures s)) (blindFlangeList (blindFlangeFigures s)) plates
+    (by-flange-choice (blindFlangeFigures s))
