@@ -3,14 +3,12 @@ use rules::BlindFlangeSheet;
 use rules::EndplateSheet;
 ghost use Prim.Native.Nat.{_≤_};
 ghost use mathlib.Core.Path.{_≡_};
-ghost use lib.ListN.{length};
 ghost use Rattle.root.specs.Root.{leastRoot};
 ghost use Rattle.rules.specs.Answer.{endplateAnswer, blindFlangeAnswer, figureAt};
 ghost use Rattle.rules.specs.Exact.{EndplateFigureExact, BlindFlangeFigureExact};
 ghost use Rattle.rules.specs.Plates.{platesIn};
-ghost use Rattle.report.specs.Report.{reportText, longest};
-ghost use Rattle.sheet.specs.Sheet.{answerOf};
-ghost use Rattle.sheet.specs.Outcome.{outcomeOf, spaceOf};
+ghost use Rattle.report.specs.Report.{longest};
+ghost use Rattle.sheet.specs.Outcome.{lengthFor, spaceOf};
 ghost use Rattle.sheet.specs.Exact.{SheetExact};
 ghost use Rattle.capi.specs.Call.{endplateCall, blindFlangeCall};
 
@@ -96,11 +94,9 @@ pub extern "C" fn scantling_blind_flange(
 // enough; otherwise `out` is as it was.
 #[no_mangle]
 pub extern "C" fn scantling_sheet(text: &[u8], out: &mut [u8]) -> usize
-    ensures { λ r. ⌜ r ≡ length (reportText (answerOf (now (text .entry)))) ⌝ }
+    ensures { λ r. ⌜ r ≡ lengthFor (now (text .entry)) ⌝ }
     ensures content { λ _. ⌜ now (out .exit) ≡ spaceOf (now (text .entry)) (now (out .entry)) ⌝ }
-    ensures exact { λ _.
-        let outcome = outcomeOf (now (text .entry)) (now (out .entry)) in
-        ⌜ SheetExact (now (text .entry)) outcome (now (out .exit)) ⌝ }
+    ensures exact { λ _. ⌜ SheetExact (now (text .entry)) ⌝ }
     ensures short { λ r. ⌜ r ≤ longest ⌝ }
 {
     let outcome = sheet::answer(text, out);

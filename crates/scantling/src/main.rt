@@ -4,13 +4,13 @@ use sheet::length_of;
 ghost use Prim.Native.Nat.{_≤_};
 ghost use mathlib.Core.Path.{_≡_};
 ghost use lib.ListN.{length, take};
-ghost use Rattle.report.specs.Report.{reportText, longest};
-ghost use Rattle.sheet.specs.Sheet.{answerOf};
+ghost use Rattle.report.specs.Report.{longest};
+ghost use Rattle.sheet.specs.Outcome.{reportFor};
 
 // Writes the sheet's report to the front of `out`, and answers its length.
 fn report_of(text: &[u8], out: &mut [u8]) -> usize
     requires { ⌜ longest ≤ length (now out) ⌝ }
-    ensures { λ r. ⌜ take r (now (out .exit)) ≡ reportText (answerOf (now (text .entry))) ⌝ }
+    ensures { λ r. ⌜ take r (now (out .exit)) ≡ reportFor (now (text .entry)) ⌝ }
     ensures short { λ r. ⌜ r ≤ longest ⌝ }
 {
     length_of(answer(text, out))

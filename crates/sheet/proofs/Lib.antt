@@ -1,6 +1,7 @@
--- Laws that the proofs of the functions cite. For other crates: Accepted and Results.
-pub mod Choices
-pub mod LineByLine
-pub mod Judged
-pub mod Accepted
-pub mod Results
+-- Laws that the proofs of the functions cite.
+mod Choices
+mod LineByLine
+mod HandedBack
+mod Answered
+mod PrintedExact
+mod LaidReport

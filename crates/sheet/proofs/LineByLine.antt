@@ -16,7 +16,7 @@ use Rattle.text.specs.Line.{isLine, valueOf, after}
 use Rattle.text.specs.Plates.{held as Plates·held}
 use Rattle.text.specs.declared.number.Number.{Number}
 use Rattle.text.specs.declared.number.Number.the-variants.{Value, Malformed}
-use Rattle.text.proofs.Listed.{zeros-fill}
+use Rattle.text.specs.Laws.Padded.{zeros-fill}
 use Rattle.sheet.specs.Fields.{Field, lineOf, fieldOf, fieldsOf, noField}
 use Rattle.sheet.specs.Lines.{Lines, fault, given, ahead, platesLine, lastLine, linesOf, places, held}
 

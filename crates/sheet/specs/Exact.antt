@@ -1,15 +1,16 @@
 -- Demand 3 of the numbers printed: those read out of the report's bytes satisfy the exact inequalities of the sheet.
+-- That it holds of the bytes in the space, where the report fits, is a law (Laws).
 use Prim.Native.Nat.{ℕ}
 use Prim.Native.String.{String}
 use mathlib.Core.List.{List}
 use mathlib.Core.Path.{_≡_}
-use lib.ListN.{take}
-use Rattle.rules.specs.Exact.{EndplateThicknessExact, ThicknessExact, EdgeExact}
+use Rattle.rules.specs.Answer.{Accepted}
+use Rattle.rules.specs.Exact.{EndplateThicknessExact, EndplateExact, ThicknessExact, EdgeExact, BlindFlangeExact}
+use Rattle.rules.specs.declared.Answer.{Answer}
 use Rattle.text.specs.Printed.{printed}
 use Rattle.text.specs.declared.number.Number.the-variants.{Value}
-use Rattle.sheet.specs.Sheet.{Sheet, malformed, endplate, blindFlange, sheetOf}
-use Rattle.sheet.specs.declared.Outcome.{Outcome}
-use Rattle.sheet.specs.declared.Outcome.the-variants.{Report, Refused, ShortSpace}
+use Rattle.sheet.specs.Sheet.{Sheet, malformed, endplate, blindFlange, sheetOf, answerOf}
+use Rattle.sheet.specs.Outcome.{reportFor}
 
 -- the line of this key shows a number of which P holds
 abbrev pub Shows : String → List ℕ → (ℕ → Type 0) → Type 0
@@ -21,8 +22,12 @@ ReportExact (malformed line) report = ⊥
 ReportExact (endplate s plates) report = Shows "need" report (EndplateThicknessExact s)
 ReportExact (blindFlange s plates) report = Shows "need" report (ThicknessExact s) × Shows "edge" report (EdgeExact s)
 
--- of the bytes that the space holds afterwards
-abbrev pub SheetExact : List ℕ → Outcome → List ℕ → Type 0
-SheetExact text (Report n) space = ReportExact (sheetOf text) (take n space)
-SheetExact text (Refused cause figure n) space = Unit
-SheetExact text (ShortSpace n) space = Unit
+-- a text that is accepted: of the report that results, whatever the space
+abbrev pub SheetExact : List ℕ → Type 0
+SheetExact text = Accepted (answerOf text) → ReportExact (sheetOf text) (reportFor text)
+
+-- of the answer before it is text
+abbrev pub AnswerExact : Sheet → Answer → Type 0
+AnswerExact (malformed line) answer = Accepted answer → ⊥
+AnswerExact (endplate s plates) answer = EndplateExact s answer
+AnswerExact (blindFlange s plates) answer = BlindFlangeExact s answer

@@ -1,12 +1,13 @@
 -- The lines of a sheet after the first, each what must stand there, or the number of the first that is not.
-use Prim.Native.Nat.{ℕ, _+_, _-_}
+use Prim.Native.Nat.{ℕ, _+_}
 use mathlib.Core.Bool.{true, false, cond}
-use mathlib.Core.List.{List, [], _∷_, _++_}
+use mathlib.Core.List.{List, [], _∷_}
 use mathlib.Core.Option.{Option, none, some}
 use lib.Dec.{eqb}
-use lib.ListN.{length, replicate}
+use lib.ListN.{length}
 use Rattle.text.specs.Ascii.{ascii, lineFeed}
 use Rattle.text.specs.Line.{isLine, valueOf, after}
+use Rattle.text.specs.Padded.{padded}
 use Rattle.text.specs.Plates.{most, platesOf}
 use Rattle.text.specs.declared.number.Number.{Number}
 use Rattle.text.specs.declared.number.Number.the-variants.{Value, Malformed}
@@ -41,18 +42,18 @@ linesOf line (field ∷ fields) t =
     let rest = linesOf (line + 1) fields (after lineFeed t) in
     ahead line (fieldOf field t) rest
 
--- how they are handed back: each list in the first places of an array, zeros after it
+-- how they are handed back
 abbrev pub places : ℕ
 places = 14
 
 abbrev pub held : Lines → SheetLines
 held (fault k) =
-    record { ok = false; fault = k; values = replicate places 0; count = 0; plates = replicate most 0 }
+    record { ok = false; fault = k; values = padded places []; count = 0; plates = padded most [] }
 held (given xs plates) =
     record {
       ok = true;
       fault = 0;
-      values = xs ++ replicate (places - length xs) 0;
+      values = padded places xs;
       count = length plates;
-      plates = plates ++ replicate (most - length plates) 0;
+      plates = padded most plates;
     }

@@ -4,6 +4,7 @@ use mathlib.Core.Bool.{Bool, true, false, cond, _&&_}
 use mathlib.Core.List.{List}
 use lib.ListN.{getD}
 use Rattle.rules.specs.Answer.{endplateAnswer, blindFlangeAnswer}
+use Rattle.rules.specs.Numbers.{endplateCause, endplateFigure, blindFlangeCause, blindFlangeFigure}
 use Rattle.rules.specs.declared.EndplateSheet.{EndplateSheet}
 use Rattle.rules.specs.declared.BlindFlangeSheet.{BlindFlangeSheet}
 use Rattle.rules.specs.declared.Answer.{Answer}
@@ -81,3 +82,17 @@ answered (blindFlange s plates) = blindFlangeAnswer s plates
 -- the answer to a text
 unfoldable pub answerOf : List ℕ → Answer
 answerOf text = answered (sheetOf text)
+
+-- ---- the same in document 01's numbers
+
+-- the cause, 0 if none; 15 is the space's affair
+abbrev pub sheetCause : Sheet → ℕ
+sheetCause (malformed line) = 1
+sheetCause (endplate s plates) = endplateCause s plates
+sheetCause (blindFlange s plates) = blindFlangeCause s plates
+
+-- the figure returned with it: the line of 1, the total of 14, else 0
+abbrev pub sheetFigure : Sheet → ℕ
+sheetFigure (malformed line) = line
+sheetFigure (endplate s plates) = endplateFigure s plates
+sheetFigure (blindFlange s plates) = blindFlangeFigure s plates

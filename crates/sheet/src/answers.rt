@@ -1,14 +1,17 @@
 // The answer to a sheet: cause 1 with the line at fault, or what the rules say of its numbers.
-use crate::fields::is_word;
 use crate::lines::read_lines;
 use rules::Answer;
 use rules::BlindFlangeSheet;
 use rules::EndplateSheet;
 use text::is_line;
+use text::is_word;
 use text::next_line;
 use text::value;
 ghost use mathlib.Core.Path.{_≡_};
-ghost use Rattle.sheet.specs.Sheet.{endplateSheet, blindFlangeSheet, isPart, partOf, answered, answerOf};
+ghost use Rattle.rules.specs.Answer.{causeOf, figureOf};
+ghost use Rattle.sheet.specs.Sheet.{endplateSheet, blindFlangeSheet, isPart, partOf, sheetOf, answered};
+ghost use Rattle.sheet.specs.Sheet.{answerOf, sheetCause, sheetFigure};
+ghost use Rattle.sheet.specs.Exact.{AnswerExact};
 
 const MALFORMED: u32 = 1;
 
@@ -57,6 +60,10 @@ fn is_part(text: &[u8], word: &[u8]) -> bool
 // The answer to a sheet of a blind flange, or else of an endplate, by its lines from the second on.
 fn part_answer(text: &[u8], blind: bool) -> Answer
     ensures { λ r. ⌜ r ≡ answered (partOf blind (now (text .entry))) ⌝ }
+    ensures numbers { λ r.
+        let s = partOf blind (now (text .entry)) in
+        ⌜ (causeOf r ≡ sheetCause s) × (figureOf r ≡ sheetFigure s) ⌝ }
+    ensures exact { λ r. ⌜ AnswerExact (partOf blind (now (text .entry))) r ⌝ }
 {
     let lines = read_lines(next_line(text), blind);
     if !lines.ok {
@@ -76,6 +83,10 @@ fn part_answer(text: &[u8], blind: bool) -> Answer
 
 pub(crate) fn answer_to(text: &[u8]) -> Answer
     ensures { λ r. ⌜ r ≡ answerOf (now (text .entry)) ⌝ }
+    ensures numbers { λ r.
+        let s = sheetOf (now (text .entry)) in
+        ⌜ (causeOf r ≡ sheetCause s) × (figureOf r ≡ sheetFigure s) ⌝ }
+    ensures exact { λ r. ⌜ AnswerExact (sheetOf (now (text .entry))) r ⌝ }
 {
     if is_part(text, b"end") {
         return part_answer(text, false);

@@ -1,22 +1,15 @@
 // The lines of the two sheets between the part and the plates.
 use text::Number;
 use text::is_line;
+use text::is_word;
 use text::read_number;
 use text::value;
 ghost use Prim.Native.Nat.{_<_};
 ghost use mathlib.Core.Path.{_≡_};
 ghost use lib.ListN.{length, getD};
-ghost use Rattle.text.specs.Line.{same};
 ghost use Rattle.text.specs.Number.{numberOf};
 ghost use Rattle.sheet.specs.Fields.{formOf, lineOf, fieldOf, fieldsOf, noField};
 ghost use Rattle.sheet.specs.Fields.{endplateFields, blindFlangeFields};
-
-// Whether a value is this word.
-pub(crate) fn is_word(v: &[u8], word: &[u8]) -> bool
-    ensures { λ r. ⌜ r ≡ same (now (word .entry)) (now (v .entry)) ⌝ }
-{
-    check::same(v, word)
-}
 
 // form: a, c or d, as 1, 2, 3.
 fn read_form(v: &[u8]) -> Number

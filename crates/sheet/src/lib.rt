@@ -8,7 +8,8 @@ use rules::Answer;
 ghost use Prim.Native.Nat.{_≤_};
 ghost use mathlib.Core.Path.{_≡_};
 ghost use Rattle.report.specs.Report.{longest};
-ghost use Rattle.sheet.specs.Outcome.{outcomeOf, spaceOf, lengthOf};
+ghost use Rattle.sheet.specs.Outcome.{outcomeOf, spaceOf, causeOf, figureOf, lengthOf};
+ghost use Rattle.sheet.specs.Outcome.{causeFor, figureFor, lengthFor};
 ghost use Rattle.sheet.specs.Exact.{SheetExact};
 
 // What became of a sheet; `length` is that of its report.
@@ -32,8 +33,12 @@ pub enum Outcome {
 // Answers the sheet in `text`, and writes its report to the front of `out`.
 pub fn answer(text: &[u8], out: &mut [u8]) -> Outcome
     ensures { λ r. ⌜ r ≡ outcomeOf (now (text .entry)) (now (out .entry)) ⌝ }
+    ensures numbers { λ r.
+        let t = now (text .entry) in
+        let d = now (out .entry) in
+        ⌜ (causeOf r ≡ causeFor t d) × (figureOf r ≡ figureFor t d) × (lengthOf r ≡ lengthFor t) ⌝ }
     ensures content { λ _. ⌜ now (out .exit) ≡ spaceOf (now (text .entry)) (now (out .entry)) ⌝ }
-    ensures exact { λ r. ⌜ SheetExact (now (text .entry)) r (now (out .exit)) ⌝ }
+    ensures exact { λ _. ⌜ SheetExact (now (text .entry)) ⌝ }
     ensures short { λ r. ⌜ lengthOf r ≤ longest ⌝ }
 {
     let answer = answer_to(text);

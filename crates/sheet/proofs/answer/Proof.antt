@@ -1,7 +1,13 @@
 -- `answer` meets its contract. Assumes nothing.
+use Prim.Native.Nat.{_≤_}
+use mathlib.Core.Path.{_≡_}
 use native.Mathlib.Omega.{arith}
 use borrow.Author.Needs.{needs}
-use Rattle.sheet.proofs.Accepted.{Laid, space, short, fits, exact}
+use Rattle.report.specs.Report.{longest}
+use Rattle.sheet.specs.Sheet.{answerOf}
+use Rattle.sheet.specs.Outcome.{spaceOf}
+use Rattle.sheet.specs.Exact.{SheetExact}
+use Rattle.sheet.proofs.LaidReport.{Laid, space, short, fits, exact}
 use Rattle.sheet.proofs.answer.Statement.{statement}
 use Rattle.sheet.proofs.answer.Tie as tie
 
@@ -13,36 +19,41 @@ laid-out : (c : tie.After-write)
     (c .before .before .answer-to .result)
     (c .write .result)
     (c .write .last .1 .0)
+unfolding answerOf
 laid-out c =
     let made = c .write .ensures in
-    record { known = c .before .before .answer-to .ensures; size = made .0; content = made .1 .0 }
+    record { answered = c .before .before .answer-to .ensures; size = made .0; content = made .1 .0 }
+
+-- beside the outcome, in every case
+left : (c : tie.After-write)
+    → let s = c .before .before .before .before .before in
+    (c .write .last .1 .0 ≡ spaceOf (s .args .text .now) (s .args .out .now))
+    × (SheetExact (s .args .text .now) × (c .write .result ≤ longest))
+left c = let l = laid-out c in (space l, (exact l, c .write .ensures .1 .1))
 
 returns : tie.Need-returns
 returns c =
     let w = c .before .before .before in
-    let l = laid-out w in
-    (short l (omega arith), (space l, (tt, w .write .ensures .1 .1)))
+    let t = short (laid-out w) (omega arith) in
+    (t .0, (t .1, left w))
 
 returns-2 : tie.Need-returns-2
 returns-2 c =
     let w = c .before .before .before .before .before in
-    let l = laid-out w in
-    let answer = c .enum-told .given .1 in
-    (fits l answer (omega arith), (space l, (exact l answer (omega arith) tt, w .write .ensures .1 .1)))
+    let t = fits (laid-out w) (c .enum-told .given .1) (omega arith) in
+    (t .0, (t .1, left w))
 
 returns-3 : tie.Need-returns-3
 returns-3 c =
     let w = c .before .before .before .before .before in
-    let l = laid-out w in
-    let answer = c .enum-told2 .given .1 in
-    (fits l answer (omega arith), (space l, (exact l answer (omega arith) tt, w .write .ensures .1 .1)))
+    let t = fits (laid-out w) (c .enum-told2 .given .1) (omega arith) in
+    (t .0, (t .1, left w))
 
 returns-4 : tie.Need-returns-4
 returns-4 c =
     let w = c .before .before .before .before .before .before in
-    let l = laid-out w in
-    let answer = c .before .answer .given .1 in
-    (fits l answer (omega arith), (space l, (tt, w .write .ensures .1 .1)))
+    let t = fits (laid-out w) (c .before .answer .given .1) (omega arith) in
+    (t .0, (t .1, left w))
 
 pub answer-spec : {M : Type 1} → statement M
 answer-spec =

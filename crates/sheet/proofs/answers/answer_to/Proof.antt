@@ -1,8 +1,9 @@
 -- `answers::answer_to` meets its contract. Assumes nothing.
-use mathlib.Core.Path.{_≡_, sym}
+use mathlib.Core.Path.{_≡_, refl, sym}
 use borrow.Author.Needs.{needs}
 use Rattle.text.specs.Ascii.{ascii}
 use Rattle.sheet.specs.Sheet.{isPart, sheetOf, answerOf}
+use Rattle.sheet.proofs.Answered.{malformed-answered}
 use Rattle.sheet.proofs.answers.answer_to.Statement.{statement}
 use Rattle.sheet.proofs.answers.answer_to.Tie as tie
 
@@ -31,6 +32,7 @@ unfolding answerOf sheetOf
 returns-3 c =
     let t = c .before in
     rw (is-end (t .before .before .before), t .before .before .if1 .left, is-blind t, c .if2 .left)
+    (malformed-answered 1 refl refl)
 
 pub answer-to-spec : {M : Type 1} → statement M
 answer-to-spec =

@@ -1,7 +1,7 @@
 -- `answers::part_answer` meets its contract. Assumes nothing.
 use Prim.Native.Nat.{_≤_}
 use mathlib.Core.Bool.{Bool, true, false}
-use mathlib.Core.Path.{_≡_, sym, ap, _∙_}
+use mathlib.Core.Path.{_≡_, refl, sym, ap, _∙_}
 use borrow.Author.Needs.{needs}
 use borrow.Author.Tests.{not-true, not-false}
 use lib.ListN.{length}
@@ -10,9 +10,10 @@ use Rattle.text.specs.Ascii.{lineFeed}
 use Rattle.text.specs.Line.{after}
 use Rattle.sheet.specs.Fields.{fieldsOf}
 use Rattle.sheet.specs.Lines.{Lines, linesOf, held}
-use Rattle.sheet.specs.Sheet.{read, partOf, answered}
+use Rattle.sheet.specs.Sheet.{read, partOf}
 use Rattle.sheet.specs.declared.lines.SheetLines.{SheetLines}
-use Rattle.sheet.proofs.Judged.{refused-part, endplate-part, flange-part, count-fits}
+use Rattle.sheet.proofs.HandedBack.{malformed-read, endplate-read, flange-read, count-fits}
+use Rattle.sheet.proofs.Answered.{malformed-answered, endplate-answered, flange-answered}
 use Rattle.sheet.proofs.answers.part_answer.Statement.{statement}
 use Rattle.sheet.proofs.answers.part_answer.Tie as tie
 
@@ -37,7 +38,8 @@ returns : tie.Need-returns
 unfolding partOf
 returns c =
     let l = c .before .before .before in
-    rw (handed l) (refused-part _ (lines l) (in-order l false (not-true _ (c .before .if1 .taken))))
+    let said = malformed-read _ (lines l) (in-order l false (not-true _ (c .before .if1 .taken))) in
+    malformed-answered _ said (rw (handed l) refl)
 
 returns-2 : tie.Need-returns-2
 unfolding partOf
@@ -45,9 +47,9 @@ returns-2 c =
     let t = c .before .before .before .before .before .before in
     let l = t .before .before in
     let sheet = c .before .before .blind-flange-sheet .ensures in
-    c .blind-flange .ensures .0
-    ∙ rw (sheet, handed l) (flange-part (lines l) (in-order l true (not-false _ (t .if1 .left))))
-    ∙ ap (λ (blind : Bool). answered (read blind (lines l))) (sym (c .before .before .before .if2 .taken))
+    flange-answered _ _ (c .blind-flange .ensures)
+    (rw (sheet, handed l) (flange-read (lines l) (in-order l true (not-false _ (t .if1 .left))))
+    ∙ ap (λ (blind : Bool). read blind (lines l)) (sym (c .before .before .before .if2 .taken)))
 
 returns-3 : tie.Need-returns-3
 unfolding partOf
@@ -55,9 +57,9 @@ returns-3 c =
     let t = c .before .before .before .before .before .before in
     let l = t .before .before in
     let sheet = c .before .before .endplate-sheet .ensures in
-    c .endplate .ensures .0
-    ∙ rw (sheet, handed l) (endplate-part (lines l) (in-order l true (not-false _ (t .if1 .left))))
-    ∙ ap (λ (blind : Bool). answered (read blind (lines l))) (sym (c .before .before .before .if2 .left))
+    endplate-answered _ _ (c .endplate .ensures)
+    (rw (sheet, handed l) (endplate-read (lines l) (in-order l true (not-false _ (t .if1 .left))))
+    ∙ ap (λ (blind : Bool). read blind (lines l)) (sym (c .before .before .before .if2 .left)))
 
 pub part-answer-spec : {M : Type 1} → statement M
 part-answer-spec =

@@ -10,7 +10,7 @@ use Rattle.text.specs.Ascii.{lineFeed}
 use Rattle.text.specs.Line.{after}
 use Rattle.text.specs.Plates.{held as Plates·held}
 use Rattle.text.specs.declared.plates.Plates.{Plates}
-use Rattle.text.proofs.Listed.{zeros-after}
+use Rattle.text.specs.Laws.Padded.{zeros-after}
 use Rattle.sheet.specs.Fields.{fieldsOf}
 use Rattle.sheet.specs.Lines.{fault, platesLine, lastLine, linesOf, places, held}
 use Rattle.sheet.proofs.LineByLine.{prepend, prepend-nothing, fields-fit, line-fault, line-more}
