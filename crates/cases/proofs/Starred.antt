@@ -107,7 +107,7 @@ table =
     (stress 6 50, 48 ∷ [])
     ∷ (stress 6 51, 46 ∷ [])
     ∷ (stress 6 200, 18 ∷ [])
-    ∷ (sheet (end "form=a" "material=6" "shell=0" "temp=201" "pressure=1000"), textOf ("refused=5" ∷ "place=0" ∷ []))
+    ∷ (sheet (end "form=c" "material=6" "shell=1" "temp=201" "pressure=1000"), textOf ("refused=5" ∷ "place=0" ∷ []))
     ∷ (stress 1 300, 91 ∷ [])
     -- forms a, c, d
     ∷ (
