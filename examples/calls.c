@@ -3,8 +3,18 @@
 
 #include <stdio.h>
 
-/* Plates of 25.00, 32.00 and 40.00 mm: four bytes each, lowest first. */
-static const uint8_t plates[] = {0xC4, 0x09, 0, 0, 0x80, 0x0C, 0, 0, 0xA0, 0x0F, 0, 0};
+/* Plates of 25.00, 32.00 and 40.00 mm, and the bytes in which the calls take them. */
+static const uint32_t thicknesses[] = {2500, 3200, 4000};
+static uint8_t plates[sizeof thicknesses];
+
+/* Packs thicknesses for the calls: four bytes each, lowest first. */
+static void pack(const uint32_t *from, size_t count, uint8_t *to)
+{
+    size_t i;
+
+    for (i = 0; i < 4 * count; i++)
+        to[i] = (uint8_t)(from[i / 4] >> (8 * (i % 4)) & 0xFF);
+}
 
 /* The end of a shell of 500 mm inside diameter, form c, carbon steel, 1 N/mm2, 150 degrees C, 1 mm allowance. */
 static unsigned long endplate(uint32_t place)
@@ -25,6 +35,7 @@ int main(void)
     uint8_t report[SCANTLING_LONGEST_REPORT];
     size_t length = scantling_sheet(text, sizeof text - 1, report, sizeof report);
 
+    pack(thicknesses, sizeof thicknesses / sizeof thicknesses[0], plates);
     if (endplate(SCANTLING_CAUSE) == SCANTLING_ACCEPTED)
         printf("endplate: thickness %lu, plate %lu\n", endplate(SCANTLING_ENDPLATE_THICKNESS),
                endplate(SCANTLING_ENDPLATE_PLATE));

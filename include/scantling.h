@@ -4,9 +4,9 @@
  * Link the archive libcapi.a that `rt staticlib capi` writes to target/staticlib/ (x86-64 Linux).
  * The calls keep no state, allocate nothing and may run in several threads at once.
  *
- * Two plates of 25.00 and 30.00 mm, and the plate for an end of 500 mm welded into a shell:
+ * The plate for an end of 500 mm welded into a shell; examples/calls.c packs plates into bytes. A call answers one place,
+ * and each place asked is a calculation of its own:
  *
- *     const uint8_t plates[] = {0xC4, 0x09, 0, 0, 0xB8, 0x0B, 0, 0};
  *     uint64_t cause = scantling_endplate(2, 1, 1, 150, 1000, 5000, 100, plates, sizeof plates, SCANTLING_CAUSE);
  *     if (cause == SCANTLING_ACCEPTED)
  *         cut(scantling_endplate(2, 1, 1, 150, 1000, 5000, 100, plates, sizeof plates, SCANTLING_ENDPLATE_PLATE));

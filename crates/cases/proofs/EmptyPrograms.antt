@@ -1,33 +1,24 @@
 -- The six empty programs of document 01 ("Contracts and the cases"): each breaks the promise of `sheet::answer` at
--- sheets named here. And a constant need breaks demand 3 by itself. Assumes nothing.
-use Prim.Native.Nat.{ℕ, _*_, _≤_}
+-- sheets named here. Assumes nothing.
+use Prim.Native.Nat.{ℕ, _≤_}
 use Prim.Native.String.{String}
-use mathlib.Core.List.{List, [], _∷_}
+use mathlib.Core.List.{List}
 use mathlib.Core.Path.{_≡_, refl, sym, ap, _∙_}
 use native.Mathlib.Omega.{arith}
 use lib.ListN.{length, take, getD, replicate}
 use Rattle.bytes.specs.Bytes.{indexOf, indexAfter}
-use Rattle.tables.specs.DesignStress.{column, designStress}
-use Rattle.root.specs.Least.{_≥_, Least, least-most}
-use Rattle.root.specs.Laws.{square-le}
-use Rattle.rules.specs.Endplate.{endplateStress}
 use Rattle.rules.specs.Answer.{Accepted}
-use Rattle.rules.specs.declared.EndplateSheet.{EndplateSheet}
 use Rattle.rules.specs.declared.Answer.{Answer}
 use Rattle.rules.specs.declared.Answer.the-variants.{Endplate, BlindFlange, Refused as Answer·Refused}
 use Rattle.text.specs.Ascii.{lineFeed}
 use Rattle.text.specs.Line.{before, after, valueOf}
-use Rattle.text.specs.Number.{numberOf}
-use Rattle.text.specs.Plates.{numbersOf, platesOf}
 use Rattle.text.specs.Decimal.{numberLine}
 use Rattle.text.specs.Printed.{printedWithin, printed}
 use Rattle.text.specs.declared.number.Number.{Number}
 use Rattle.text.specs.declared.number.Number.the-variants.{Value}
 use Rattle.report.specs.Report.{reportText}
 use Rattle.report.specs.Space.{writtenAt, laid}
-use Rattle.sheet.specs.Fields.{lineOf}
-use Rattle.sheet.specs.Lines.{platesLine, linesOf}
-use Rattle.sheet.specs.Sheet.{endplate, partOf, sheetOf, answerOf}
+use Rattle.sheet.specs.Sheet.{sheetOf, answerOf}
 use Rattle.sheet.specs.Outcome.{reportFor, lengthFor, written, outcomeOf, spaceOf, causeFor, figureFor}
 use Rattle.sheet.specs.Outcome.{causeOf, figureOf, lengthOf}
 use Rattle.sheet.specs.Exact.{ReportExact}
@@ -78,14 +69,14 @@ space = replicate 200 0
 printed-report : reportFor printedSheet ≡ blindReport
 printed-report = row 13
 
-end-1080 : reportFor (endAt "pressure=1080") ≡ sized "stress=108" "need=2500" "total=2500"
+pub end-1080 : reportFor (endAt "pressure=1080") ≡ sized "stress=108" "need=2500" "total=2500"
 end-1080 = row 8
 
-end-1081 : reportFor (endAt "pressure=1081") ≡ sized "stress=108" "need=2502" "total=2502"
+pub end-1081 : reportFor (endAt "pressure=1081") ≡ sized "stress=108" "need=2502" "total=2502"
 end-1081 = row 9
 
 -- a report that begins with s, as in stress, is no refusal
-not-refused : (a : Answer) (n : ℕ) → getD (reportText a) 0 0 ≡ 115 → Accepted a × (written a n ≡ Report n)
+pub not-refused : (a : Answer) (n : ℕ) → getD (reportText a) 0 0 ≡ 115 → Accepted a × (written a n ≡ Report n)
 unfolding reportText numberLine
 not-refused (Endplate f plate) n e = (refl, refl)
 not-refused (BlindFlange f plate) n e = (refl, refl)
@@ -167,51 +158,3 @@ module _ (f : Program) (promise : Promise f) where
   no-plate-before-looking e =
       let none : _≡_ {A = ℕ} 0 14 = sym (ap causeOf (promise .0 printedSheet space .outcome ∙ printed-outcome)) ∙ e in
       omega (arith, none)
-
--- ---- demand 3 by itself
-
-same-value : {m n : ℕ} → Value m ≡ Value n → m ≡ n
-same-value e = cc
-
--- what the two ends say
-endSheet : ℕ → EndplateSheet
-endSheet pressure = record {
-  form = 2;
-  material = 1;
-  shell = 1;
-  temperature = 150;
-  pressure = pressure;
-  diameter = 5000;
-  allowance = 0;
-}
-
-says-1080 : sheetOf (endAt "pressure=1080") ≡ endplate (endSheet 1080) (3000 ∷ [])
-unfolding endSheet indexOf indexAfter before after valueOf numberOf numbersOf platesOf lineOf platesLine linesOf partOf sheetOf
-says-1080 = refl
-
-says-1081 : sheetOf (endAt "pressure=1081") ≡ endplate (endSheet 1081) (3000 ∷ [])
-unfolding endSheet indexOf indexAfter before after valueOf numberOf numbersOf platesOf lineOf platesLine linesOf partOf sheetOf
-says-1081 = refl
-
-module _ (f : Program) (exact : DemandThree f) (space : List ℕ) (room : 43 ≤ length space) where
-  -- the number that it prints as an end's need is the least of the end's own inequality
-  least : (text : List ℕ) (P : ℕ) → sheetOf text ≡ endplate (endSheet P) (3000 ∷ []) → Accepted (answerOf text)
-      → lengthFor text ≤ length space
-      → (n : ℕ) × (printed "need" (leaves f text space) ≡ Value n) × Least (λ T. 40 * 108 * (T * T) ≥ P * (5000 * 5000)) n
-  unfolding endSheet endplateStress designStress column
-  least text P says accepted fits = rw says at (exact text space accepted fits)
-
-  -- a constant need: 40·108·T² ≥ P·5000² has another least T at P 1081 than at P 1080
-  pub constant-need :
-      (T : Number) →
-      printed "need" (leaves f (endAt "pressure=1080") space) ≡ T →
-      printed "need" (leaves f (endAt "pressure=1081") space) ≡ T →
-      ⊥
-  constant-need T e e' =
-      let low = endAt "pressure=1080" in
-      let high = endAt "pressure=1081" in
-      let one = least low 1080 says-1080 (not-refused (answerOf low) 0 (rw end-1080) .0) (rw end-1080 room) in
-      let two = least high 1081 says-1081 (not-refused (answerOf high) 0 (rw end-1081) .0) (rw end-1081 room) in
-      let same : one .0 ≡ two .0 = same-value (sym (one .1) ∙ e ∙ sym e' ∙ two .1) in
-      let most : one .0 ≤ 2500 = least-most 2500 (one .2) (omega arith) in
-      omega (arith, two .2 .holds, square-le {a = two .0} {b = 2500} (omega arith))

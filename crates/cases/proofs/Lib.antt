@@ -1,3 +1,4 @@
 -- The proved cases, and the programs that the promise rules out.
 mod Starred
 mod EmptyPrograms
+mod ConstantNeed

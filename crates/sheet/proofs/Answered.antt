@@ -12,17 +12,20 @@ use Rattle.rules.specs.declared.EndplateSheet.{EndplateSheet}
 use Rattle.rules.specs.declared.BlindFlangeSheet.{BlindFlangeSheet}
 use Rattle.rules.specs.declared.Answer.{Answer}
 use Rattle.rules.specs.declared.Answer.the-variants.{Refused}
-use Rattle.sheet.specs.Sheet.{Sheet, malformed, endplate, blindFlange, answered, sheetCause, sheetFigure}
+use Rattle.sheet.specs.Sheet.{Sheet, malformed, endplate, blindFlange, answered}
+use Rattle.sheet.specs.Sheet.{sheetCause, sheetFigure, sheetReport}
 use Rattle.sheet.specs.Exact.{AnswerExact}
 
 abbrev pub Answered : Sheet → Answer → Type 0
 Answered sheet r =
-    (r ≡ answered sheet) × (((causeOf r ≡ sheetCause sheet) × (figureOf r ≡ sheetFigure sheet)) × AnswerExact sheet r)
+    (r ≡ answered sheet)
+    × (((causeOf r ≡ sheetCause sheet) × (figureOf r ≡ sheetFigure sheet) × (reportOf r ≡ sheetReport sheet))
+    × AnswerExact sheet r)
 
 -- of a sheet that says what was answered
 module _ {sheet : Sheet} {r : Answer} where
   pub malformed-answered : (line : ℕ) → malformed line ≡ sheet → r ≡ Refused 1 line → Answered sheet r
-  malformed-answered line e a = rw (← e, a) (refl, ((refl, refl), λ z. absurd (omega (arith, z))))
+  malformed-answered line e a = rw (← e, a) (refl, ((refl, refl, refl), λ z. absurd (omega (arith, z))))
 
   -- from what the rules promise of their answer
   pub endplate-answered :
@@ -34,7 +37,7 @@ module _ {sheet : Sheet} {r : Answer} where
       × EndplateExact s r) →
       endplate s plates ≡ sheet →
       Answered sheet r
-  endplate-answered s plates p e = rw (← e) (p .0, ((p .1 .0 .0, p .1 .0 .1), p .1 .1))
+  endplate-answered s plates p e = rw (← e) p
 
   pub flange-answered :
       (s : BlindFlangeSheet) (plates : List ℕ) →
@@ -45,4 +48,4 @@ module _ {sheet : Sheet} {r : Answer} where
       × BlindFlangeExact s r) →
       blindFlange s plates ≡ sheet →
       Answered sheet r
-  flange-answered s plates p e = rw (← e) (p .0, ((p .1 .0 .0, p .1 .0 .1), p .1 .1))
+  flange-answered s plates p e = rw (← e) p

@@ -4,12 +4,12 @@ use mathlib.Core.List.{List}
 use mathlib.Core.Path.{_≡_, refl, _∙_}
 use borrow.Author.Tests.{le-leb, lt-leb}
 use lib.ListN.{length}
-use Rattle.rules.specs.Answer.{causeOf as Answer·causeOf, figureOf as Answer·figureOf}
+use Rattle.rules.specs.Answer.{causeOf as Answer·causeOf, figureOf as Answer·figureOf, reportOf}
 use Rattle.rules.specs.declared.Answer.{Answer}
 use Rattle.rules.specs.declared.Answer.the-variants.{Endplate, BlindFlange, Refused}
 use Rattle.report.specs.Report.{reportText}
 use Rattle.report.specs.Space.{laid}
-use Rattle.sheet.specs.Sheet.{sheetOf, answerOf}
+use Rattle.sheet.specs.Sheet.{sheetOf, answerOf, sheetReport}
 use Rattle.sheet.specs.Outcome.{written, outcomeOf, spaceOf, causeFor, figureFor, lengthFor}
 use Rattle.sheet.specs.Outcome.{causeOf, figureOf, lengthOf}
 use Rattle.sheet.specs.Exact.{SheetExact}
@@ -28,7 +28,10 @@ pub record Laid (text d : List ℕ) (answer : Answer) (n : ℕ) (d' : List ℕ) 
 abbrev pub Told : List ℕ → List ℕ → Outcome → Type 0
 Told text d r =
     (r ≡ outcomeOf text d)
-    × ((causeOf r ≡ causeFor text d) × (figureOf r ≡ figureFor text d) × (lengthOf r ≡ lengthFor text))
+    × ((causeOf r ≡ causeFor text d)
+    × (figureOf r ≡ figureFor text d)
+    × (lengthOf r ≡ lengthFor text)
+    × (reportOf (answerOf text) ≡ sheetReport (sheetOf text)))
 
 -- those of a report that was written are the answer's
 written-numbers : (a : Answer) (n : ℕ)
@@ -53,11 +56,12 @@ module _ {text d d' : List ℕ} {answer : Answer} {n : ℕ} (l : Laid text d ans
 
   pub short : length d < n → Told text d (ShortSpace n)
   unfolding outcomeOf causeFor figureFor
-  short h = rw (← known, ← l .size, lt-leb n (length d) h) (refl, (refl, refl, refl))
+  short h = rw (← known, ← l .size, lt-leb n (length d) h) (refl, (refl, refl, refl, l .answered .1 .0 .2))
 
   pub fits : {a : Answer} → answer ≡ a → n ≤ length d → Told text d (written a n)
   unfolding outcomeOf causeFor figureFor
   fits {a} e h =
       let numbers = l .answered .1 .0 in
       let w = written-numbers a n in
-      rw (← known, ← l .size, le-leb n (length d) h, ← numbers .0, ← numbers .1, e) (refl, w)
+      rw (← known, ← l .size, le-leb n (length d) h, ← numbers .0, ← numbers .1, e)
+      (refl, (w .0, w .1, w .2, rw e at (numbers .2)))

@@ -1,10 +1,11 @@
 -- What a sheet says: the numbers of an endplate or of a blind flange, with the plates; and its answer.
 use Prim.Native.Nat.{ℕ}
 use mathlib.Core.Bool.{Bool, true, false, cond, _&&_}
-use mathlib.Core.List.{List}
+use mathlib.Core.List.{List, []}
 use lib.ListN.{getD}
 use Rattle.rules.specs.Answer.{endplateAnswer, blindFlangeAnswer}
-use Rattle.rules.specs.Numbers.{endplateCause, endplateFigure, blindFlangeCause, blindFlangeFigure}
+use Rattle.rules.specs.Numbers.{endplateCause, endplateFigure, endplateReport}
+use Rattle.rules.specs.Numbers.{blindFlangeCause, blindFlangeFigure, blindFlangeReport}
 use Rattle.rules.specs.declared.EndplateSheet.{EndplateSheet}
 use Rattle.rules.specs.declared.BlindFlangeSheet.{BlindFlangeSheet}
 use Rattle.rules.specs.declared.Answer.{Answer}
@@ -96,3 +97,9 @@ abbrev pub sheetFigure : Sheet → ℕ
 sheetFigure (malformed line) = line
 sheetFigure (endplate s plates) = endplateFigure s plates
 sheetFigure (blindFlange s plates) = blindFlangeFigure s plates
+
+-- the report's figures, in report order; none with a cause
+abbrev pub sheetReport : Sheet → List ℕ
+sheetReport (malformed line) = []
+sheetReport (endplate s plates) = endplateReport s plates
+sheetReport (blindFlange s plates) = blindFlangeReport s plates

@@ -8,9 +8,9 @@ use text::is_word;
 use text::next_line;
 use text::value;
 ghost use mathlib.Core.Path.{_≡_};
-ghost use Rattle.rules.specs.Answer.{causeOf, figureOf};
+ghost use Rattle.rules.specs.Answer.{causeOf, figureOf, reportOf};
 ghost use Rattle.sheet.specs.Sheet.{endplateSheet, blindFlangeSheet, isPart, partOf, sheetOf, answered};
-ghost use Rattle.sheet.specs.Sheet.{answerOf, sheetCause, sheetFigure};
+ghost use Rattle.sheet.specs.Sheet.{answerOf, sheetCause, sheetFigure, sheetReport};
 ghost use Rattle.sheet.specs.Exact.{AnswerExact};
 
 const MALFORMED: u32 = 1;
@@ -62,7 +62,7 @@ fn part_answer(text: &[u8], blind: bool) -> Answer
     ensures { λ r. ⌜ r ≡ answered (partOf blind (now (text .entry))) ⌝ }
     ensures numbers { λ r.
         let s = partOf blind (now (text .entry)) in
-        ⌜ (causeOf r ≡ sheetCause s) × (figureOf r ≡ sheetFigure s) ⌝ }
+        ⌜ (causeOf r ≡ sheetCause s) × (figureOf r ≡ sheetFigure s) × (reportOf r ≡ sheetReport s) ⌝ }
     ensures exact { λ r. ⌜ AnswerExact (partOf blind (now (text .entry))) r ⌝ }
 {
     let lines = read_lines(next_line(text), blind);
@@ -85,7 +85,7 @@ pub(crate) fn answer_to(text: &[u8]) -> Answer
     ensures { λ r. ⌜ r ≡ answerOf (now (text .entry)) ⌝ }
     ensures numbers { λ r.
         let s = sheetOf (now (text .entry)) in
-        ⌜ (causeOf r ≡ sheetCause s) × (figureOf r ≡ sheetFigure s) ⌝ }
+        ⌜ (causeOf r ≡ sheetCause s) × (figureOf r ≡ sheetFigure s) × (reportOf r ≡ sheetReport s) ⌝ }
     ensures exact { λ r. ⌜ AnswerExact (sheetOf (now (text .entry))) r ⌝ }
 {
     if is_part(text, b"end") {

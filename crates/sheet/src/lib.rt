@@ -7,7 +7,9 @@ use answers::answer_to;
 use rules::Answer;
 ghost use Prim.Native.Nat.{_≤_};
 ghost use mathlib.Core.Path.{_≡_};
+ghost use Rattle.rules.specs.Answer.{reportOf};
 ghost use Rattle.report.specs.Report.{longest};
+ghost use Rattle.sheet.specs.Sheet.{sheetOf, answerOf, sheetReport};
 ghost use Rattle.sheet.specs.Outcome.{outcomeOf, spaceOf, causeOf, figureOf, lengthOf};
 ghost use Rattle.sheet.specs.Outcome.{causeFor, figureFor, lengthFor};
 ghost use Rattle.sheet.specs.Exact.{SheetExact};
@@ -36,7 +38,10 @@ pub fn answer(text: &[u8], out: &mut [u8]) -> Outcome
     ensures numbers { λ r.
         let t = now (text .entry) in
         let d = now (out .entry) in
-        ⌜ (causeOf r ≡ causeFor t d) × (figureOf r ≡ figureFor t d) × (lengthOf r ≡ lengthFor t) ⌝ }
+        ⌜ (causeOf r ≡ causeFor t d)
+        × (figureOf r ≡ figureFor t d)
+        × (lengthOf r ≡ lengthFor t)
+        × (reportOf (answerOf t) ≡ sheetReport (sheetOf t)) ⌝ }
     ensures content { λ _. ⌜ now (out .exit) ≡ spaceOf (now (text .entry)) (now (out .entry)) ⌝ }
     ensures exact { λ _. ⌜ SheetExact (now (text .entry)) ⌝ }
     ensures short { λ r. ⌜ lengthOf r ≤ longest ⌝ }
