@@ -1,4 +1,4 @@
--- Bounds of the figures: what makes the products of an accepted sheet fit. Assumes nothing.
+-- Bounds of the figures: what makes the products fit within the limits. Assumes nothing.
 use mathlib.Core.Path.{_≡_, refl}
 use mathlib.Core.Logic.{_≢_}
 use mathlib.Core.Bool.{Bool, true, false, cond}

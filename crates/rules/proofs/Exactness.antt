@@ -1,4 +1,4 @@
--- Demand 3, as theorems of the definitions: what is accepted satisfies the exact inequalities, and how nearly.
+-- Demand 3, as theorems of the definitions: what is within the limits satisfies the exact inequalities, and how nearly.
 -- Assumes nothing.
 use mathlib.Core.Path.{_≡_, refl}
 use Prim.Native.Nat.{ℕ, _-_, _*_, _^_, _≤_}
@@ -19,7 +19,7 @@ use Rattle.rules.specs.Exact.{ThicknessExact, EdgeExact}
 use Rattle.rules.specs.Exact.{exactOperatingLoadOf, exactSeatingLoadOf, exactFlangeLoadOf}
 use Rattle.rules.specs.declared.EndplateSheet.{EndplateSheet}
 use Rattle.rules.specs.declared.BlindFlangeSheet.{BlindFlangeSheet}
-use Rattle.rules.proofs.Accepted.{BlindFlangeAccepted, endplate-accepted, blind-flange-accepted}
+use Rattle.rules.proofs.WithinLimits.{BlindFlangeWithin, endplate-within, blind-flange-within}
 use Rattle.rules.proofs.FlangeBounds.{Stresses, stresses, Ring, ring}
 use Rattle.rules.proofs.RoundedLoads.{operating-low, operating-high, flange-low, flange-high}
 use Rattle.rules.proofs.Accuracy.{loaded, near-map, near-both}
@@ -32,7 +32,7 @@ pub endplate-least :
     let F = endplateStress (s .form) (s .material) (s .shell) (s .temperature) in
     Least (EndplateHolds (s .form) F (s .pressure) (s .diameter)) (endplateFigures s .thickness)
 unfolding endplateFigures
-endplate-least s e = endplateThickness-least (s .form) _ (s .pressure) (s .diameter) (endplate-accepted s e .stressed)
+endplate-least s e = endplateThickness-least (s .form) _ (s .pressure) (s .diameter) (endplate-within s e .stressed)
 
 -- ---- blind flanges: an instance of the argument for each thickness
 
@@ -41,8 +41,8 @@ rises : (x f t u : ℕ) → t ≤ u → x ≤ f * (t * t) → x ≤ f * (u * u)
 rises x f t u l h = omega (arith, mul-le-mul-left f (square-le l))
 
 module _ (s : BlindFlangeSheet) (e : firstCause (blindFlangeLimits s) ≡ 0) where
-  a : BlindFlangeAccepted s
-  a = blind-flange-accepted s e
+  a : BlindFlangeWithin s
+  a = blind-flange-within s e
 
   abbrev S : ℕ
   S = designStress (s .material) (s .temperature)

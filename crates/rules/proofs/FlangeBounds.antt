@@ -1,4 +1,4 @@
--- Bounds of an accepted blind flange's figures, each from those that it is worked from. Assumes nothing.
+-- Bounds of a blind flange's figures within the limits, each from those that it is worked from. Assumes nothing.
 use mathlib.Core.Path.{_≡_, refl}
 use Prim.Native.Nat.{ℕ, _+_, _^_, _≤_}
 use native.Mathlib.Omega.{arith}
@@ -10,12 +10,12 @@ use Rattle.rules.specs.Bolts.{boltArea}
 use Rattle.rules.specs.BlindFlange.{flangeThickness, edgeThickness}
 use Rattle.rules.specs.Figures.{ambient, blindFlangeFigures}
 use Rattle.rules.specs.declared.BlindFlangeSheet.{BlindFlangeSheet}
-use Rattle.rules.proofs.Accepted.{BlindFlangeAccepted}
+use Rattle.rules.proofs.WithinLimits.{BlindFlangeWithin}
 use Rattle.rules.proofs.Bounds.{inset, operatingLoad-most, seatingLoad-most, flangeLoad-most}
 use Rattle.rules.proofs.Bounds.{flangeThickness-most, edgeUnder-most}
 use Rattle.rules.proofs.Products.{edge-products, bending-products}
 
-module _ (s : BlindFlangeSheet) (a : BlindFlangeAccepted s) where
+module _ (s : BlindFlangeSheet) (a : BlindFlangeWithin s) where
   pub record Stresses (S S0 : ℕ) : Type 0 where
     pub least : 18 ≤ S
     pub ambient-least : 18 ≤ S0

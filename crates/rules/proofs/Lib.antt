@@ -1,7 +1,7 @@
 -- Laws that the proofs of the functions cite.
 mod Rules
 mod Order
-mod Accepted
+mod WithinLimits
 mod Products
 mod Bounds
 mod FlangeBounds

@@ -67,9 +67,9 @@ module _ (s : BlindFlangeSheet) where
       let k : 13 ≡ firstCause (blindFlangeCauses s) = rw (first, ← e, h) in
       rw (← k)
 
-  accepted :
+  no-cause :
       firstCause (blindFlangeLimits s) ≡ 0 → any (boltsOverloaded s) ≡ false → 0 ≡ firstCause (blindFlangeCauses s)
-  accepted e h = rw (first, e, h)
+  no-cause e h = rw (first, e, h)
 
   pub flange-sized :
       {f : BlindFlangeFigures} →
@@ -78,9 +78,9 @@ module _ (s : BlindFlangeSheet) where
       f ≡ blindFlangeFigures s →
       BlindFlange f ≡ blindFlangeSizing s
   unfolding blindFlangeSizing
-  flange-sized e h q = rw (q, ← accepted (sym e) h)
+  flange-sized e h q = rw (q, ← no-cause (sym e) h)
 
-  -- what is accepted is within the limits
+  -- where no cause before 14 applies, no limit is passed
   pub within : firstCause (blindFlangeCauses s) ≡ 0 → firstCause (blindFlangeLimits s) ≡ 0
   within e = by-test (eqb (firstCause (blindFlangeLimits s)) 0) refl (rw first at e)
     where

@@ -4,67 +4,67 @@ use Prim.Native.Nat.{_^_, _≤_}
 use native.Mathlib.Omega.{arith}
 use borrow.Author.Needs.{needs}
 use Rattle.rules.specs.Figures.{blindFlangeFigures}
-use Rattle.rules.proofs.Accepted.{BlindFlangeAccepted, blind-flange-accepted}
+use Rattle.rules.proofs.WithinLimits.{BlindFlangeWithin, blind-flange-within}
 use Rattle.rules.proofs.FlangeBounds as bounds
 use Rattle.rules.proofs.figures.blind_flange_figures.Statement.{statement}
 use Rattle.rules.proofs.figures.blind_flange_figures.Tie as tie
 
-accepted : (c : tie.Start) → BlindFlangeAccepted (c .args .s)
-accepted c = blind-flange-accepted (c .args .s) (c .pre)
+limits : (c : tie.Start) → BlindFlangeWithin (c .args .s)
+limits c = blind-flange-within (c .args .s) (c .pre)
 
 stresses :
     (c : tie.After-design-stress2) →
     let b = c .before .before in
-    bounds.Stresses (b .args .s) (accepted b) (c .before .design-stress .result) (c .design-stress2 .result)
+    bounds.Stresses (b .args .s) (limits b) (c .before .design-stress .result) (c .design-stress2 .result)
 stresses c =
     let b = c .before .before in
-    bounds.stresses (b .args .s) (accepted b) (c .before .design-stress .ensures) (c .design-stress2 .ensures)
+    bounds.stresses (b .args .s) (limits b) (c .before .design-stress .ensures) (c .design-stress2 .ensures)
 
 ring :
     (c : tie.After-effective-width) →
     let b = c .before .before .before .before in
-    bounds.Ring (b .args .s) (accepted b) (c .before .reaction-diameter .result) (c .effective-width .result)
+    bounds.Ring (b .args .s) (limits b) (c .before .reaction-diameter .result) (c .effective-width .result)
 ring c =
     let b = c .before .before .before .before in
-    bounds.ring (b .args .s) (accepted b) (c .before .reaction-diameter .ensures) (c .effective-width .ensures)
+    bounds.ring (b .args .s) (limits b) (c .before .reaction-diameter .ensures) (c .effective-width .ensures)
 
 operating : (c : tie.After-operating-load) → c .operating-load .result ≤ 2 ^ 26
 operating c =
     let b = c .before .before .before .before .before in
-    bounds.operating (b .args .s) (accepted b) (ring (c .before)) (c .operating-load .ensures)
+    bounds.operating (b .args .s) (limits b) (ring (c .before)) (c .operating-load .ensures)
 
 seating : (c : tie.After-seating-load) → c .seating-load .result ≤ 2 ^ 26
 seating c =
     let b = c .before .before .before .before .before .before in
-    bounds.seating (b .args .s) (accepted b) (ring (c .before .before)) (c .seating-load .ensures)
+    bounds.seating (b .args .s) (limits b) (ring (c .before .before)) (c .seating-load .ensures)
 
 flange : (c : tie.After-flange-load) → c .flange-load .result ≤ 2 ^ 30
 flange c =
     let b = c .before .before .before .before .before .before .before .before in
-    bounds.flange (b .args .s) (accepted b) (ring (c .before .before .before .before))
+    bounds.flange (b .args .s) (limits b) (ring (c .before .before .before .before))
     (operating (c .before .before .before)) (seating (c .before .before))
     (rw (c .before .bolt-area .ensures) at (c .flange-load .ensures))
 
 operating-load-requires : tie.Need-operating-load-requires
 operating-load-requires c κs =
-    let a = accepted (c .before .before .before .before) in
+    let a = limits (c .before .before .before .before) in
     (ring c .most, ring c .width, a .m, a .pressure)
 
 seating-load-requires : tie.Need-seating-load-requires
 seating-load-requires c κs =
     let r = ring (c .before) in
-    (r .most, r .width, accepted (c .before .before .before .before .before) .y)
+    (r .most, r .width, limits (c .before .before .before .before .before) .y)
 
 flange-load-requires : tie.Need-flange-load-requires
 flange-load-requires c κs =
-    let a = accepted (c .before .before .before .before .before .before .before) in
+    let a = limits (c .before .before .before .before .before .before .before) in
     omega (arith, operating (c .before .before), seating (c .before), c .bolt-area .ensures, a)
 
 flange-thickness-requires : tie.Need-flange-thickness-requires
 flange-thickness-requires c κs =
     let e = c .before .before .before .before in
     let t = stresses (e .before .before) in
-    let a = accepted (e .before .before .before .before) in
+    let a = limits (e .before .before .before .before) in
     omega (arith, t, ring e, a .pressure, operating (c .before .before .before))
 
 edge-thickness-requires : tie.Need-edge-thickness-requires
@@ -81,7 +81,7 @@ total-fits c =
     let o = f .before .before .before in
     let e = o .before in
     let b = e .before .before .before .before in
-    let a = accepted b in
+    let a = limits b in
     let t = stresses (e .before .before) in
     let w : o .operating-load .result ≤ 2 ^ 30 = omega (arith, operating o) in
     omega (

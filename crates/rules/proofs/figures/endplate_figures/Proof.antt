@@ -2,7 +2,7 @@
 use native.Mathlib.Omega.{arith}
 use borrow.Author.Needs.{needs}
 use Rattle.rules.specs.Figures.{endplateFigures}
-use Rattle.rules.proofs.Accepted.{endplate-accepted}
+use Rattle.rules.proofs.WithinLimits.{endplate-within}
 use Rattle.rules.proofs.Bounds.{endplateStress-most, endplateThickness-most}
 use Rattle.rules.proofs.figures.endplate_figures.Statement.{statement}
 use Rattle.rules.proofs.figures.endplate_figures.Tie as tie
@@ -12,7 +12,7 @@ thickness-requires c κs =
     let s = c .before .args .s in
     omega (
       arith,
-      endplate-accepted s (c .before .pre),
+      endplate-within s (c .before .pre),
       c .endplate-stress .ensures,
       endplateStress-most (s .form) (s .material) (s .shell) (s .temperature),
     )
@@ -20,7 +20,7 @@ thickness-requires c κs =
 total-fits : tie.Need-add-t6
 total-fits c =
     let s = c .before .before .before .args .s in
-    let a = endplate-accepted s (c .before .before .before .pre) in
+    let a = endplate-within s (c .before .before .before .pre) in
     let f = c .before .before .endplate-stress in
     omega (
       arith,

@@ -4,7 +4,7 @@ use mathlib.Core.Bool.{not}
 use native.Mathlib.Omega.{arith}
 use borrow.Author.Needs.{needs}
 use Rattle.rules.specs.Causes.{any, firstCause, blindFlangeLimits, boltsOverloaded}
-use Rattle.rules.proofs.Accepted.{blind-flange-accepted}
+use Rattle.rules.proofs.WithinLimits.{blind-flange-within}
 use Rattle.rules.proofs.FlangeBounds.{figures-operating, figures-seating}
 use Rattle.rules.proofs.Sizings.{flange-refused, flange-overloaded, flange-sized}
 use Rattle.rules.proofs.sizing.blind_flange_sizing.Statement.{statement}
@@ -23,7 +23,7 @@ bolts-sufficient-requires : tie.Need-bolts-sufficient-requires
 bolts-sufficient-requires c κs =
     let f = c .before in
     let s = f .before .before .before .args .s in
-    let a = blind-flange-accepted s (sym (within f)) in
+    let a = blind-flange-within s (sym (within f)) in
     rw (f .blind-flange-figures .ensures, c .bolt-area .ensures)
     (figures-operating s a, figures-seating s a, a .area, omega arith, omega arith)
 

@@ -1,5 +1,5 @@
--- What the numbers of a sheet keep to where no cause applies. The bounds are wider than the limits, which stand in
--- Causes alone. Assumes nothing.
+-- What the numbers of a sheet keep to where none of the causes 2 to 12 applies. The bounds are wider than the limits, which
+-- stand in Causes alone. Assumes nothing.
 use mathlib.Core.Path.{_≡_}
 use mathlib.Core.Logic.{_≢_}
 use Prim.Native.Nat.{ℕ, _*_, _^_, _≤_}
@@ -16,15 +16,15 @@ use Rattle.rules.specs.declared.BlindFlangeSheet.{BlindFlangeSheet}
 use Rattle.rules.proofs.Order.{none-applies}
 use Rattle.rules.proofs.Bounds.{effectiveWidth-most}
 
-pub record EndplateAccepted (s : EndplateSheet) : Type 0 where
+pub record EndplateWithin (s : EndplateSheet) : Type 0 where
   pub pressure : s .pressure ≤ 2 ^ 11
   pub stressed : endplateStress (s .form) (s .material) (s .shell) (s .temperature) ≢ 0
   pub diameter : s .diameter ≤ 2 ^ 15
   pub allowance : s .allowance ≤ 2 ^ 10
 
-pub endplate-accepted : (s : EndplateSheet) → firstCause (endplateCauses s) ≡ 0 → EndplateAccepted s
+pub endplate-within : (s : EndplateSheet) → firstCause (endplateCauses s) ≡ 0 → EndplateWithin s
 unfolding endplateCauses
-endplate-accepted s e =
+endplate-within s e =
     let n = none-applies (endplateCauses s) tt e in
     record {
       pressure = let h = n 3 1 in omega (arith, ltb-false);
@@ -33,7 +33,7 @@ endplate-accepted s e =
       allowance = let h = n 7 0 in omega (arith, ltb-false);
     }
 
-pub record BlindFlangeAccepted (s : BlindFlangeSheet) : Type 0 where
+pub record BlindFlangeWithin (s : BlindFlangeSheet) : Type 0 where
   pub pressure : s .pressure ≤ 2 ^ 11
   pub stressed : designStress (s .material) (s .temperature) ≢ 0
   pub od : s .od ≤ 2 ^ 15
@@ -56,9 +56,9 @@ area-most bolt root count hb hr hc =
     let root-most : root ≤ 128614 = omega (arith, mul-le-mul hb hb) in
     omega (arith, mul-le-mul hc root-most)
 
-pub blind-flange-accepted : (s : BlindFlangeSheet) → firstCause (blindFlangeLimits s) ≡ 0 → BlindFlangeAccepted s
+pub blind-flange-within : (s : BlindFlangeSheet) → firstCause (blindFlangeLimits s) ≡ 0 → BlindFlangeWithin s
 unfolding blindFlangeLimits
-blind-flange-accepted s e =
+blind-flange-within s e =
     let n = none-applies (blindFlangeLimits s) tt e in
     record {
       pressure = let h = n 1 1 in omega (arith, ltb-false);
