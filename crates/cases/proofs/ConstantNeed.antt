@@ -38,21 +38,19 @@ endSheet pressure = record {
   allowance = 0;
 }
 
-says-1080 : sheetOf (endAt "pressure=1080") ≡ endplate (endSheet 1080) (3000 ∷ [])
-unfolding endSheet indexOf indexAfter before after valueOf numberOf numbersOf platesOf lineOf platesLine linesOf partOf sheetOf
-says-1080 = refl
+abbrev Says : List ℕ → ℕ → Type 0
+Says text P = sheetOf text ≡ endplate (endSheet P) (3000 ∷ [])
 
-says-1081 : sheetOf (endAt "pressure=1081") ≡ endplate (endSheet 1081) (3000 ∷ [])
+says : Says (endAt "pressure=1080") 1080 × Says (endAt "pressure=1081") 1081
 unfolding endSheet indexOf indexAfter before after valueOf numberOf numbersOf platesOf lineOf platesLine linesOf partOf sheetOf
-says-1081 = refl
+says = (refl, refl)
 
 module _ (f : Program) (exact : DemandThree f) (space : List ℕ) (room : 43 ≤ length space) where
   -- the number that it prints as an end's need is the least of the end's own inequality
-  least : (text : List ℕ) (P : ℕ) → sheetOf text ≡ endplate (endSheet P) (3000 ∷ []) → Accepted (answerOf text)
-      → lengthFor text ≤ length space
+  least : (text : List ℕ) (P : ℕ) → Says text P → Accepted (answerOf text) → lengthFor text ≤ length space
       → (n : ℕ) × (printed "need" (leaves f text space) ≡ Value n) × Least (λ T. 40 * 108 * (T * T) ≥ P * (5000 * 5000)) n
   unfolding endSheet endplateStress designStress column
-  least text P says accepted fits = rw says at (exact text space accepted fits)
+  least text P said accepted fits = rw said at (exact text space accepted fits)
 
   -- a constant need: 40·108·T² ≥ P·5000² has another least T at P 1081 than at P 1080
   pub constant-need :
@@ -63,8 +61,8 @@ module _ (f : Program) (exact : DemandThree f) (space : List ℕ) (room : 43 ≤
   constant-need T e e' =
       let low = endAt "pressure=1080" in
       let high = endAt "pressure=1081" in
-      let one = least low 1080 says-1080 (not-refused (answerOf low) 0 (rw end-1080) .0) (rw end-1080 room) in
-      let two = least high 1081 says-1081 (not-refused (answerOf high) 0 (rw end-1081) .0) (rw end-1081 room) in
+      let one = least low 1080 (says .0) (not-refused (answerOf low) 0 (rw end-1080) .0) (rw end-1080 room) in
+      let two = least high 1081 (says .1) (not-refused (answerOf high) 0 (rw end-1081) .0) (rw end-1081 room) in
       let same : one .0 ≡ two .0 = same-value (sym (one .1) ∙ e ∙ sym e' ∙ two .1) in
       let most : one .0 ≤ 2500 = least-most 2500 (one .2) (omega arith) in
       omega (arith, two .2 .holds, square-le {a = two .0} {b = 2500} (omega arith))

@@ -1,18 +1,12 @@
 -- What is promised of the answer to a sheet: it is the definition's, in document 01's numbers too, and demand 3 holds of
 -- it. Assumes nothing.
 use Prim.Native.Nat.{ℕ}
-use mathlib.Core.List.{List}
 use mathlib.Core.Path.{_≡_, refl}
 use native.Mathlib.Omega.{arith}
-use Rattle.rules.specs.Answer.{endplateAnswer, blindFlangeAnswer, causeOf, figureOf, reportOf}
-use Rattle.rules.specs.Numbers.{endplateCause, endplateFigure, endplateReport}
-use Rattle.rules.specs.Numbers.{blindFlangeCause, blindFlangeFigure, blindFlangeReport}
-use Rattle.rules.specs.Exact.{EndplateExact, BlindFlangeExact}
-use Rattle.rules.specs.declared.EndplateSheet.{EndplateSheet}
-use Rattle.rules.specs.declared.BlindFlangeSheet.{BlindFlangeSheet}
+use Rattle.rules.specs.Answer.{causeOf, figureOf, reportOf}
 use Rattle.rules.specs.declared.Answer.{Answer}
 use Rattle.rules.specs.declared.Answer.the-variants.{Refused}
-use Rattle.sheet.specs.Sheet.{Sheet, malformed, endplate, blindFlange, answered}
+use Rattle.sheet.specs.Sheet.{Sheet, malformed, answered}
 use Rattle.sheet.specs.Sheet.{sheetCause, sheetFigure, sheetReport}
 use Rattle.sheet.specs.Exact.{AnswerExact}
 
@@ -22,30 +16,10 @@ Answered sheet r =
     × (((causeOf r ≡ sheetCause sheet) × (figureOf r ≡ sheetFigure sheet) × (reportOf r ≡ sheetReport sheet))
     × AnswerExact sheet r)
 
--- of a sheet that says what was answered
-module _ {sheet : Sheet} {r : Answer} where
-  pub malformed-answered : (line : ℕ) → malformed line ≡ sheet → r ≡ Refused 1 line → Answered sheet r
-  malformed-answered line e a = rw (← e, a) (refl, ((refl, refl, refl), λ z. absurd (omega (arith, z))))
+-- a sheet at fault: cause 1 with the line
+pub malformed-answered : {r : Answer} (line : ℕ) → r ≡ Refused 1 line → Answered (malformed line) r
+malformed-answered line e = rw e (refl, ((refl, refl, refl), λ z. absurd (omega (arith, z))))
 
-  -- from what the rules promise of their answer
-  pub endplate-answered :
-      (s : EndplateSheet) (plates : List ℕ) →
-      (r ≡ endplateAnswer s plates)
-      × (((causeOf r ≡ endplateCause s plates)
-      × (figureOf r ≡ endplateFigure s plates)
-      × (reportOf r ≡ endplateReport s plates))
-      × EndplateExact s r) →
-      endplate s plates ≡ sheet →
-      Answered sheet r
-  endplate-answered s plates p e = rw (← e) p
-
-  pub flange-answered :
-      (s : BlindFlangeSheet) (plates : List ℕ) →
-      (r ≡ blindFlangeAnswer s plates)
-      × (((causeOf r ≡ blindFlangeCause s plates)
-      × (figureOf r ≡ blindFlangeFigure s plates)
-      × (reportOf r ≡ blindFlangeReport s plates))
-      × BlindFlangeExact s r) →
-      blindFlange s plates ≡ sheet →
-      Answered sheet r
-  flange-answered s plates p e = rw (← e) p
+-- of a sheet that is the one answered. For a sheet that is not at fault, what is promised is the rules' own promise
+pub answered-as : {other sheet : Sheet} {r : Answer} → Answered other r → other ≡ sheet → Answered sheet r
+answered-as p e = rw (← e) p

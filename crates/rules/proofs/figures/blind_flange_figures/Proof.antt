@@ -67,6 +67,7 @@ flange-thickness-requires c κs =
     let a = limits (e .before .before .before .before) in
     omega (arith, t, ring e, a .pressure, operating (c .before .before .before))
 
+-- whichever load is handed on fits: which one it has to be is a matter of the result
 edge-thickness-requires : tie.Need-edge-thickness-requires
 edge-thickness-requires c κs =
     let e = c .before .before .before .before .before in

@@ -32,7 +32,7 @@ unfolding answerOf sheetOf
 returns-3 c =
     let t = c .before in
     rw (is-end (t .before .before .before), t .before .before .if1 .left, is-blind t, c .if2 .left)
-    (malformed-answered 1 refl refl)
+    (malformed-answered 1 refl)
 
 pub answer-to-spec : {M : Type 1} → statement M
 answer-to-spec =

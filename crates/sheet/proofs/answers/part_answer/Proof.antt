@@ -10,10 +10,10 @@ use Rattle.text.specs.Ascii.{lineFeed}
 use Rattle.text.specs.Line.{after}
 use Rattle.sheet.specs.Fields.{fieldsOf}
 use Rattle.sheet.specs.Lines.{Lines, linesOf, held}
-use Rattle.sheet.specs.Sheet.{read, partOf}
+use Rattle.sheet.specs.Sheet.{endplate, blindFlange, read, partOf}
 use Rattle.sheet.specs.declared.lines.SheetLines.{SheetLines}
 use Rattle.sheet.proofs.HandedBack.{malformed-read, endplate-read, flange-read, count-fits}
-use Rattle.sheet.proofs.Answered.{malformed-answered, endplate-answered, flange-answered}
+use Rattle.sheet.proofs.Answered.{malformed-answered, answered-as}
 use Rattle.sheet.proofs.answers.part_answer.Statement.{statement}
 use Rattle.sheet.proofs.answers.part_answer.Tie as tie
 
@@ -39,7 +39,7 @@ unfolding partOf
 returns c =
     let l = c .before .before .before in
     let said = malformed-read _ (lines l) (in-order l false (not-true _ (c .before .if1 .taken))) in
-    malformed-answered _ said (rw (handed l) refl)
+    answered-as (malformed-answered _ (rw (handed l) refl)) said
 
 returns-2 : tie.Need-returns-2
 unfolding partOf
@@ -47,7 +47,7 @@ returns-2 c =
     let t = c .before .before .before .before .before .before in
     let l = t .before .before in
     let sheet = c .before .before .blind-flange-sheet .ensures in
-    flange-answered _ _ (c .blind-flange .ensures)
+    answered-as {other = blindFlange _ _} (c .blind-flange .ensures)
     (rw (sheet, handed l) (flange-read (lines l) (in-order l true (not-false _ (t .if1 .left))))
     ∙ ap (λ (blind : Bool). read blind (lines l)) (sym (c .before .before .before .if2 .taken)))
 
@@ -57,7 +57,7 @@ returns-3 c =
     let t = c .before .before .before .before .before .before in
     let l = t .before .before in
     let sheet = c .before .before .endplate-sheet .ensures in
-    endplate-answered _ _ (c .endplate .ensures)
+    answered-as {other = endplate _ _} (c .endplate .ensures)
     (rw (sheet, handed l) (endplate-read (lines l) (in-order l true (not-false _ (t .if1 .left))))
     ∙ ap (λ (blind : Bool). read blind (lines l)) (sym (c .before .before .before .if2 .left)))
 
