@@ -6,7 +6,7 @@ ghost use mathlib.Core.Path.{_≡_};
 ghost use Rattle.root.specs.Root.{leastRoot};
 ghost use Rattle.rules.specs.Answer.{endplateAnswer, blindFlangeAnswer, figureAt};
 ghost use Rattle.rules.specs.Exact.{EndplateFigureExact, BlindFlangeFigureExact};
-ghost use Rattle.rules.specs.Plates.{platesIn};
+ghost use Rattle.plates.specs.Plates.{platesIn};
 ghost use Rattle.report.specs.Report.{longest};
 ghost use Rattle.sheet.specs.Outcome.{lengthFor, spaceOf};
 ghost use Rattle.sheet.specs.Exact.{SheetExact};

@@ -15,7 +15,7 @@ use Rattle.rules.specs.Bolts.{boltsSufficient}
 use Rattle.rules.specs.BlindFlange.{flangeThickness, edgeUnder}
 use Rattle.rules.specs.Figures.{endplateFigures, blindFlangeFigures}
 use Rattle.rules.specs.Causes.{endplateCauses, blindFlangeLimits, blindFlangeCauses}
-use Rattle.rules.specs.Plates.{smallestServing}
+use Rattle.plates.specs.Plates.{smallestServing}
 use Rattle.rules.specs.Answer.{endplateSizing, blindFlangeSizing, endplateAnswer, blindFlangeAnswer}
 use Rattle.text.specs.Ascii.{ascii, lineFeed}
 use Rattle.text.specs.Line.{before, after, valueOf}

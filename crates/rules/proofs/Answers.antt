@@ -3,7 +3,7 @@ use mathlib.Core.Path.{_≡_, refl, sym, subst}
 use mathlib.Core.List.{List}
 use Prim.Native.Nat.{ℕ}
 use native.Mathlib.Omega.{arith}
-use Rattle.rules.specs.Plates.{smallestServing}
+use Rattle.plates.specs.Plates.{smallestServing}
 use Rattle.rules.specs.Answer.{endplateSizing, blindFlangeSizing, totalOf, withPlate, fromPlates}
 use Rattle.rules.specs.Answer.{endplateAnswer, blindFlangeAnswer, Accepted, figureAt}
 use Rattle.rules.specs.Numbers.{endplateCause, endplateFigure, endplateReport}
@@ -15,8 +15,8 @@ use Rattle.rules.specs.declared.EndplateSheet.{EndplateSheet}
 use Rattle.rules.specs.declared.EndplateFigures.{EndplateFigures}
 use Rattle.rules.specs.declared.BlindFlangeSheet.{BlindFlangeSheet}
 use Rattle.rules.specs.declared.BlindFlangeFigures.{BlindFlangeFigures}
-use Rattle.rules.specs.declared.plates.Choice.{Choice}
-use Rattle.rules.specs.declared.plates.Choice.the-variants.{Plate, NoPlate}
+use Rattle.plates.specs.declared.Choice.{Choice}
+use Rattle.plates.specs.declared.Choice.the-variants.{Plate, NoPlate}
 use Rattle.rules.specs.declared.sizing.Sizing.{Sizing}
 use Rattle.rules.specs.declared.sizing.Sizing.the-variants.{Endplate, BlindFlange}
 use Rattle.rules.specs.declared.Answer.{Answer}

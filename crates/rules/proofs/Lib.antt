@@ -6,12 +6,9 @@ mod Products
 mod Bounds
 mod FlangeBounds
 mod PastPlaces
-mod Folds
-mod PlateBytes
 mod RoundedLoads
 mod Accuracy
 mod Exactness
 mod Sizings
 mod Numbers
 mod Answers
-mod PlateRule

@@ -1,7 +1,7 @@
 -- An answer in document 01's numbers: those that follow from what the calculation is given. Assumes nothing.
-use mathlib.Core.Path.{_≡_, refl, sym, ap, _∙_}
-use mathlib.Core.Bool.{Bool, true, false, _&&_, _||_, not, cond}
-use mathlib.Core.List.{List, [], _∷_, _++_, foldl, map}
+use mathlib.Core.Path.{_≡_, refl, _∙_}
+use mathlib.Core.Bool.{Bool, true, false, not, cond}
+use mathlib.Core.List.{List, [], _∷_, _++_}
 use Prim.Native.Nat.{ℕ, _<_}
 use native.Mathlib.Omega.{arith}
 use borrow.Author.Tests.{ne-eqb}
@@ -10,7 +10,7 @@ use Rattle.tables.specs.TableRule.{every, both}
 use Rattle.rules.specs.Causes.{any, Causes, firstCause, endplateCauses}
 use Rattle.rules.specs.Causes.{blindFlangeLimits, blindFlangeCauses}
 use Rattle.rules.specs.Figures.{endplateFigures, blindFlangeFigures}
-use Rattle.rules.specs.Plates.{serves, smaller, better, smallestServing, plateOf}
+use Rattle.plates.specs.Plates.{smallestServing, plateOf, isChosen}
 use Rattle.rules.specs.Answer.{refusedOr, totalOf, withPlate, fromPlates, causeOf, figureOf, reportOf}
 use Rattle.rules.specs.Answer.{endplateList, blindFlangeList, endplateSizing, blindFlangeSizing}
 use Rattle.rules.specs.Answer.{endplateAnswer, blindFlangeAnswer}
@@ -21,43 +21,13 @@ use Rattle.rules.specs.declared.EndplateSheet.{EndplateSheet}
 use Rattle.rules.specs.declared.EndplateFigures.{EndplateFigures}
 use Rattle.rules.specs.declared.BlindFlangeSheet.{BlindFlangeSheet}
 use Rattle.rules.specs.declared.BlindFlangeFigures.{BlindFlangeFigures}
-use Rattle.rules.specs.declared.plates.Choice.{Choice}
-use Rattle.rules.specs.declared.plates.Choice.the-variants.{Plate, NoPlate}
+use Rattle.plates.specs.Laws.{chosen-serves}
+use Rattle.plates.specs.declared.Choice.{Choice}
+use Rattle.plates.specs.declared.Choice.the-variants.{Plate, NoPlate}
 use Rattle.rules.specs.declared.sizing.Sizing.{Sizing}
 use Rattle.rules.specs.declared.sizing.Sizing.the-variants.{Endplate, BlindFlange, Refused}
 use Rattle.rules.specs.declared.Answer.{Answer}
 use Rattle.rules.proofs.Order.{numbered, in-turn}
-
--- ---- a plate is chosen exactly where one serves
-
-abbrev chosen : Choice → Bool
-chosen (Plate plate) = true
-chosen NoPlate = false
-
-module _ (total : ℕ) where
-  one-more : (c : Choice) (plate : ℕ) → chosen (better total c plate) ≡ (chosen c || serves total plate)
-  one-more (Plate p) plate = by-test (serves total plate && smaller plate (Plate p))
-    where
-      by-test : (b : Bool) → chosen (cond b (Plate plate) (Plate p)) ≡ true
-      by-test true = refl
-      by-test false = refl
-  one-more NoPlate plate = by-test (serves total plate)
-    where
-      by-test : (b : Bool) → chosen (cond (b && true) (Plate plate) NoPlate) ≡ b
-      by-test true = refl
-      by-test false = refl
-
-  all-of-them :
-      (plates : List ℕ) (c : Choice) →
-      chosen (foldl (better total) c plates) ≡ foldl _||_ (chosen c) (map (serves total) plates)
-  all-of-them [] c = refl
-  all-of-them (plate ∷ plates) c =
-      all-of-them plates (better total c plate)
-      ∙ ap (λ (b : Bool). foldl _||_ b (map (serves total) plates)) (one-more c plate)
-
-  pub chosen-serves : (plates : List ℕ) → any (map (serves total) plates) ≡ chosen (smallestServing total plates)
-  unfolding smallestServing
-  chosen-serves plates = sym (all-of-them plates NoPlate)
 
 -- ---- the causes before 14
 
@@ -82,7 +52,7 @@ Told cause figure report answer = (causeOf answer ≡ cause) × (figureOf answer
 
 -- where nothing before 14 applies: 14 if no plate was chosen
 abbrev lastCause : Choice → ℕ
-lastCause c = cond (not (chosen c)) 14 0
+lastCause c = cond (not (isChosen c)) 14 0
 
 -- the numbers of what is sized, with a choice
 abbrev Last : Sizing → List ℕ → Choice → Type 0

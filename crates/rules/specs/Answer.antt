@@ -7,13 +7,13 @@ use lib.Dec.{eqb}
 use lib.ListN.{getD}
 use Rattle.rules.specs.Causes.{firstCause, endplateCauses, blindFlangeCauses}
 use Rattle.rules.specs.Figures.{endplateFigures, blindFlangeFigures}
-use Rattle.rules.specs.Plates.{smallestServing}
+use Rattle.plates.specs.Plates.{smallestServing}
 use Rattle.rules.specs.declared.EndplateSheet.{EndplateSheet}
 use Rattle.rules.specs.declared.EndplateFigures.{EndplateFigures}
 use Rattle.rules.specs.declared.BlindFlangeSheet.{BlindFlangeSheet}
 use Rattle.rules.specs.declared.BlindFlangeFigures.{BlindFlangeFigures}
-use Rattle.rules.specs.declared.plates.Choice.{Choice}
-use Rattle.rules.specs.declared.plates.Choice.the-variants.{Plate, NoPlate}
+use Rattle.plates.specs.declared.Choice.{Choice}
+use Rattle.plates.specs.declared.Choice.the-variants.{Plate, NoPlate}
 use Rattle.rules.specs.declared.sizing.Sizing.{Sizing}
 use Rattle.rules.specs.declared.sizing.Sizing.the-variants.{Endplate as Sizing·Endplate}
 use Rattle.rules.specs.declared.sizing.Sizing.the-variants.{BlindFlange as Sizing·BlindFlange}

@@ -4,7 +4,6 @@ pub mod Gasket
 pub mod Loads
 pub mod Bolts
 pub mod BlindFlange
-pub mod Plates
 pub mod Figures
 pub mod Causes
 pub mod Answer

@@ -2,18 +2,18 @@
 -- report's figures.
 use Prim.Native.Nat.{ℕ}
 use mathlib.Core.Bool.{not, cond}
-use mathlib.Core.List.{List, [], _∷_, _++_, map}
+use mathlib.Core.List.{List, [], _∷_, _++_}
 use lib.Dec.{eqb}
-use Rattle.rules.specs.Causes.{Tests, any, Causes, firstCause, endplateCauses, blindFlangeCauses}
+use Rattle.rules.specs.Causes.{Tests, Causes, firstCause, endplateCauses, blindFlangeCauses}
 use Rattle.rules.specs.Figures.{endplateFigures, blindFlangeFigures}
-use Rattle.rules.specs.Plates.{serves, smallestServing, plateOf}
+use Rattle.plates.specs.Plates.{anyServes, smallestServing, plateOf}
 use Rattle.rules.specs.Answer.{endplateList, blindFlangeList}
 use Rattle.rules.specs.declared.EndplateSheet.{EndplateSheet}
 use Rattle.rules.specs.declared.BlindFlangeSheet.{BlindFlangeSheet}
 
 -- 14: no listed plate serves
 abbrev pub noPlateServes : ℕ → List ℕ → Tests
-noPlateServes total plates = not (any (map (serves total) plates)) ∷ []
+noPlateServes total plates = not (anyServes total plates) ∷ []
 
 -- the first cause of a part that applies, 14 after the others; 0 if none does
 abbrev pub causeFrom : Causes → ℕ → List ℕ → ℕ

@@ -5,7 +5,7 @@ ghost use Rattle.rules.specs.Answer.{causeOf, figureOf, reportOf, figure
 ghost use Rattle.rules.specs.Exact.{EndplateExact, EndplateFigureExact, BlindFlangeExact, BlindFlangeFigureExact};
 ghost use Rattle.rules.specs.Numbers.{endplateCause, endplateFigure, endplateReport};
 ghost use Rattle.rules.specs.Numbers.{blindFlangeCause, blindFlangeFigure, blindFlangeReport};
-ghost use Rattle.rules.specs.Plates.{platesIn};
+ghost use Rattle.plates.specs.Plates.{platesIn};
 
 mod bolts;
 mod causes;
@@ -14,14 +14,13 @@ mod figures;
 mod gasket;
 mod loads;
 mod places;
-mod plates;
 mod sizing;
 mod stress;
 mod thickness;
 
 use places::figure_at;
 use plates::smallest_serving;
-use plates::smallest_serving_in;
+use plates::smallest_serving_from_bytes;
 use sizing::blind_flange_sizing;
 use sizing::endplate_sizing;
 use sizing::total_of;
@@ -167,7 +166,7 @@ pub fn endplate_figure(s: EndplateSheet, plates: &[u8], place: u32) -> u64
     ensures exact { λ r. ⌜ EndplateFigureExact s (endplateAnswer s (platesIn (now (plates .entry)))) place r ⌝ }
 {
     let sizing = endplate_sizing(s);
-    let choice = smallest_serving_in(total_of(sizing), plates);
+    let choice = smallest_serving_from_bytes(total_of(sizing), plates);
     figure_at(with_plate(sizing, choice), place)
 }
 
@@ -177,6 +176,6 @@ pub fn blind_flange_figure(s: BlindFlangeSheet, plates: &[u8], place: u32) -> u6
     ensures exact { λ r. ⌜ BlindFlangeFigureExact s (blindFlangeAnswer s (platesIn (now (plates .entry)))) place r ⌝ }
 {
     let sizing = blind_flange_sizing(s);
-    let choice = smallest_serving_in(total_of(sizing), plates);
+    let choice = smallest_serving_from_bytes(total_of(sizing), plates);
     figure_at(with_plate(sizing, choice), place)
 }

@@ -7,7 +7,7 @@ use crate::EndplateSheet;
 use crate::bolts;
 use crate::causes;
 use crate::figures;
-use crate::plates::Choice;
+use plates::Choice;
 ghost use mathlib.Core.Path.{_≡_};
 ghost use Rattle.rules.specs.Answer.{endplateSizing, blindFlangeSizing, totalOf, withPlate};
 

@@ -4,8 +4,8 @@ use crate::fields::field_count;
 use text::Number;
 use text::Plates;
 use text::is_line;
+use text::malformed_plates;
 use text::next_line;
-use text::no_plates;
 use text::read_plates;
 use text::value;
 ghost use mathlib.Core.Path.{_≡_};
@@ -41,7 +41,7 @@ fn plates_line(t: &[u8]) -> Plates
     if is_line(t, b"plates") {
         return read_plates(value(t, b"plates"));
     }
-    no_plates()
+    malformed_plates()
 }
 
 // The lines of a blind flange's sheet, or else of an endplate's, from the second on.

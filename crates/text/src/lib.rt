@@ -10,5 +10,5 @@ pub use line::value;
 pub use number::Number;
 pub use number::read_number;
 pub use plates::Plates;
-pub use plates::no_plates;
+pub use plates::malformed_plates;
 pub use plates::read_plates;

@@ -10,15 +10,15 @@ ghost use Rattle.text.specs.Plates.{platesOf, held};
 
 const COMMA: u8 = b',';
 
-// The plates are the first `count` of the list; the others are 0. None where the text is malformed.
+// The plates are the first `count` of the list; the others are 0. Of a malformed list `ok` is false and it has none.
 pub struct Plates {
     pub ok: bool,
     pub count: usize,
     pub list: [u32; 32],
 }
 
-// What stands for no list.
-pub fn no_plates() -> Plates
+// What stands for a malformed list. An empty one is read as `ok` with no plates.
+pub fn malformed_plates() -> Plates
     ensures { λ r. ⌜ r ≡ held none ⌝ }
 {
     Plates {
@@ -45,7 +45,7 @@ pub fn read_plates(v: &[u8]) -> Plates
     while count < 32 {
         let number = read_number(part_before(t, COMMA));
         let Number::Value(x) = number else {
-            return no_plates();
+            return malformed_plates();
         };
         list[count] = x;
         count += 1;
@@ -59,5 +59,5 @@ pub fn read_plates(v: &[u8]) -> Plates
         let rest = part_after(t, COMMA);
         t = rest;
     }
-    no_plates()
+    malformed_plates()
 }

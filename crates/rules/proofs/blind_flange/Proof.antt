@@ -12,7 +12,7 @@ returns c =
     let a = z .before .before .args in
     flange-promised (a .s) (a .plates .now)
     (chosen _ (z .blind-flange-sizing .ensures) (t .total-of .ensures)
-    (p .smallest-serving .ensures) (c .with-plate .ensures))
+    (p .smallest-serving .ensures .0) (c .with-plate .ensures))
 
 pub blind-flange-spec : {M : Type 1} → statement M
 blind-flange-spec =

@@ -12,7 +12,7 @@ returns c =
     let z = t .before in
     let a = z .before .before .args in
     let answer =
-    chosen _ (z .endplate-sizing .ensures) (t .total-of .ensures) (p .smallest-serving-in .ensures)
+    chosen _ (z .endplate-sizing .ensures) (t .total-of .ensures) (p .smallest-serving-from-bytes .ensures .0)
     (w .with-plate .ensures) in
     endplate-placed (a .s) _ (rw (← answer) (c .figure-at .ensures))
 

@@ -13,7 +13,7 @@ returns c =
 
 returns-2 : tie.Need-returns-2
 unfolding platesLine
-returns-2 c = rw (← c .before .before .is-line .ensures, c .before .if1 .left) (c .no-plates .ensures)
+returns-2 c = rw (← c .before .before .is-line .ensures, c .before .if1 .left) (c .malformed-plates .ensures)
 
 pub plates-line-spec : {M : Type 1} → statement M
 plates-line-spec =

@@ -35,7 +35,7 @@ returns-2 : tie.Need-returns-2 Inv-loop μ-loop
 returns-2 c =
     let l = c .before .before .before .before .before .before .loop in
     let none = spelled (c .before .before .before) ∙ c .before .enum-told .given .1 in
-    c .no-plates .ensures
+    c .malformed-plates .ensures
     ∙ held-none _ (take (l .count) (l .list)) (l .inv .0) (numbers-malformed (l .t .now) (l .count) (search needs) none)
 
 returns-3 : tie.Need-returns-3 Inv-loop μ-loop
@@ -72,7 +72,7 @@ loop-again c =
 returns-4 : tie.Need-returns-4 Inv-loop μ-loop
 returns-4 c =
     let l = c .before .before .loop in
-    c .no-plates2 .ensures
+    c .malformed-plates2 .ensures
     ∙ held-none _ (take (l .count) (l .list)) (l .inv .0) (numbers-over (l .t .now) (most - l .count) (omega arith))
 
 pub read-plates-spec : {M : Type 1} → statement M

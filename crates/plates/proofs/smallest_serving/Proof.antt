@@ -1,4 +1,4 @@
--- `plates::smallest_serving` meets its contract. Invariant: the choice so far, bettered by the rest of the list, is the
+-- `smallest_serving` meets its contract. Invariant: the choice so far, bettered by the rest of the list, is the
 -- answer. Assumes nothing.
 use Prim.Native.Nat.{_≤_, _-_}
 use mathlib.Core.Path.{_≡_, refl, sym, _∙_}
@@ -6,10 +6,11 @@ use mathlib.Core.List.{foldl}
 use native.Mathlib.Omega.{arith}
 use borrow.Author.Needs.{needs}
 use lib.ListN.{length, drop}
-use Rattle.rules.specs.Plates.{better, smallestServing}
-use Rattle.rules.proofs.Folds.{fold-one, fold-end}
-use Rattle.rules.proofs.plates.smallest_serving.Statement.{statement}
-use Rattle.rules.proofs.plates.smallest_serving.Tie as tie
+use Rattle.plates.specs.Plates.{better, smallestServing}
+use Rattle.plates.specs.Laws.{as-chosen}
+use Rattle.plates.proofs.Folds.{fold-one, fold-end}
+use Rattle.plates.proofs.smallest_serving.Statement.{statement}
+use Rattle.plates.proofs.smallest_serving.Tie as tie
 
 abbrev Inv-loop : tie.InvT-loop
 Inv-loop total plates choice₀ i₀ choice i =
@@ -33,7 +34,8 @@ returns : tie.Need-returns Inv-loop μ-loop
 returns c =
     let l = c .before .loop in
     let a = c .before .before .before .args in
-    sym (l .inv .0 ∙ fold-end (better (a .total)) (l .choice) (a .plates .now) (l .i) (omega arith))
+    let rest = fold-end (better (a .total)) (l .choice) (a .plates .now) (l .i) (omega arith) in
+    as-chosen (a .total) (a .plates .now) (sym (l .inv .0 ∙ rest))
 
 pub smallest-serving-spec : {M : Type 1} → statement M
 smallest-serving-spec =

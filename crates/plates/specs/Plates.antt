@@ -1,15 +1,19 @@
--- The choice of a plate (document 01). Plates and the total in hundredths of a mm.
-use Prim.Native.Nat.{ℕ, _+_, _*_, _≤_}
-use mathlib.Core.Bool.{Bool, true, _&&_, cond}
-use mathlib.Core.List.{List, [], _∷_, foldl, List·Memᴰ}
+-- What a plate is, and the choice of one (document 01). Plates and the total in hundredths of a mm.
+use Prim.Native.Nat.{ℕ, _≤_}
+use mathlib.Core.Bool.{Bool, true, false, _&&_, _||_, cond}
+use mathlib.Core.List.{List, foldl, map, List·Memᴰ}
 use lib.Dec.{leb, ltb}
-use lib.ListN.{getD}
-use Rattle.rules.specs.declared.plates.Choice.{Choice}
-use Rattle.rules.specs.declared.plates.Choice.the-variants.{Plate, NoPlate}
+use Rattle.plates.specs.Bytes.{numbersIn}
+use Rattle.plates.specs.declared.Choice.{Choice}
+use Rattle.plates.specs.declared.Choice.the-variants.{Plate, NoPlate}
 
 -- a plate serves if it is not below the total
 abbrev pub serves : ℕ → ℕ → Bool
 serves total plate = leb total plate
+
+-- one of a list serves
+abbrev pub anyServes : ℕ → List ℕ → Bool
+anyServes total plates = foldl _||_ false (map (serves total) plates)
 
 -- smaller than the choice so far; any plate is, where there is none yet
 abbrev pub smaller : ℕ → Choice → Bool
@@ -29,22 +33,14 @@ abbrev pub plateOf : Choice → ℕ
 plateOf (Plate plate) = plate
 plateOf NoPlate = 0
 
--- ---- C's plates: bytes, four to a plate, lowest first; a remainder of fewer than four is not read
+-- a plate is chosen
+abbrev pub isChosen : Choice → Bool
+isChosen (Plate plate) = true
+isChosen NoPlate = false
 
-abbrev pub lowestFirst : ℕ → ℕ → ℕ → ℕ → ℕ
-lowestFirst a b c d = a + 256 * b + 65536 * c + 16777216 * d
-
-unfoldable pub platesIn : List ℕ → List ℕ
-platesIn [] = []
-platesIn (a ∷ []) = []
-platesIn (a ∷ b ∷ []) = []
-platesIn (a ∷ b ∷ c ∷ []) = []
-platesIn (a ∷ b ∷ c ∷ d ∷ rest) = lowestFirst a b c d ∷ platesIn rest
-
--- the plate in the four bytes from an index on
-abbrev pub plateAt : List ℕ → ℕ → ℕ
-plateAt bytes at =
-    lowestFirst (getD bytes at 0) (getD bytes (at + 1) 0) (getD bytes (at + 2) 0) (getD bytes (at + 3) 0)
+-- C's list: each number in its bytes is a plate
+abbrev pub platesIn : List ℕ → List ℕ
+platesIn bytes = numbersIn bytes
 
 -- ---- what the plate rule asks of a choice
 

@@ -1,16 +1,17 @@
--- The plate rule: the choice is the smallest listed plate that serves, and there is one wherever one serves.
--- Assumes nothing.
-use mathlib.Core.Path.{_≡_, refl, subst}
-use mathlib.Core.Bool.{Bool, true, false, _&&_, cond, and-eq-true-iff}
-use mathlib.Core.List.{List, [], _∷_, foldl, List·Memᴰ·head, List·Memᴰ·tail, List·Memᴰ·not-nil}
+-- The plate rule, for callers: the choice is the smallest listed plate that serves, and there is one exactly where one
+-- serves. Assumes nothing.
+use mathlib.Core.Path.{_≡_, refl, sym, ap, subst, _∙_}
+use mathlib.Core.Bool.{Bool, true, false, _&&_, _||_, cond, and-eq-true-iff}
+use mathlib.Core.List.{List, [], _∷_, foldl, map, List·Memᴰ·head, List·Memᴰ·tail, List·Memᴰ·not-nil}
 use Prim.Native.Nat.{ℕ, _≤_}
 use native.Mathlib.Nat.{le-refl}
 use native.Mathlib.Omega.{arith}
 use borrow.Author.Tests.{leb-true, ltb-true, ltb-false, le-leb}
 use lib.Dec.{ltb}
-use Rattle.rules.specs.Plates.{serves, smaller, better, smallestServing, Listed, NotAbove, Offered, Smallest}
-use Rattle.rules.specs.declared.plates.Choice.{Choice}
-use Rattle.rules.specs.declared.plates.Choice.the-variants.{Plate, NoPlate}
+use Rattle.plates.specs.Plates.{serves, anyServes, smaller, better, smallestServing, isChosen}
+use Rattle.plates.specs.Plates.{Listed, NotAbove, Offered, Smallest}
+use Rattle.plates.specs.declared.Choice.{Choice}
+use Rattle.plates.specs.declared.Choice.the-variants.{Plate, NoPlate}
 
 module _ (total : ℕ) where
   -- a choice, with one plate more, is not above what it was not above
@@ -69,3 +70,36 @@ module _ (total : ℕ) where
     offered = run-offers plates plates NoPlate (λ q m. m) tt;
     least = λ plate m h. run-covers plates NoPlate plate m h;
   }
+
+  -- so of whatever is the definition's choice
+  pub as-chosen :
+      (plates : List ℕ) {choice : Choice} →
+      choice ≡ smallestServing total plates →
+      (choice ≡ smallestServing total plates) × Smallest total plates choice
+  as-chosen plates e = (e, rw e (smallest plates))
+
+  -- ---- chosen exactly where one serves
+
+  one-more : (c : Choice) (plate : ℕ) → isChosen (better total c plate) ≡ (isChosen c || serves total plate)
+  one-more (Plate p) plate = by-test (serves total plate && smaller plate (Plate p))
+    where
+      by-test : (b : Bool) → isChosen (cond b (Plate plate) (Plate p)) ≡ true
+      by-test true = refl
+      by-test false = refl
+  one-more NoPlate plate = by-test (serves total plate)
+    where
+      by-test : (b : Bool) → isChosen (cond (b && true) (Plate plate) NoPlate) ≡ b
+      by-test true = refl
+      by-test false = refl
+
+  run-chooses :
+      (ps : List ℕ) (c : Choice) →
+      isChosen (foldl (better total) c ps) ≡ foldl _||_ (isChosen c) (map (serves total) ps)
+  run-chooses [] c = refl
+  run-chooses (q ∷ ps) c =
+      run-chooses ps (better total c q)
+      ∙ ap (λ (b : Bool). foldl _||_ b (map (serves total) ps)) (one-more c q)
+
+  pub chosen-serves : (plates : List ℕ) → anyServes total plates ≡ isChosen (smallestServing total plates)
+  unfolding smallestServing
+  chosen-serves plates = sym (run-chooses plates NoPlate)

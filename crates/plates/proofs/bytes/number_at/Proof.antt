@@ -1,14 +1,14 @@
--- `plates::plate_at` meets its contract. Assumes nothing.
+-- `bytes::number_at` meets its contract. Assumes nothing.
 use native.Mathlib.Omega.{arith}
 use borrow.Author.Needs.{needs}
-use Rattle.rules.proofs.plates.plate_at.Statement.{statement}
-use Rattle.rules.proofs.plates.plate_at.Tie as tie
+use Rattle.plates.proofs.bytes.number_at.Statement.{statement}
+use Rattle.plates.proofs.bytes.number_at.Tie as tie
 
 returns : tie.Need-returns
 returns c = omega arith
 
-pub plate-at-spec : {M : Type 1} → statement M
-plate-at-spec =
+pub number-at-spec : {M : Type 1} → statement M
+number-at-spec =
     tie.close
     (tie.spec
     (λ c. search needs)

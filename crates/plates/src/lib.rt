@@ -1,10 +1,13 @@
-// The choice of a plate, in hundredths of a mm.
-ghost use Prim.Native.Nat.{_+_, _≤_};
+// What a plate is, and the choice of one from a list. A plate is its thickness, in hundredths of a mm.
 ghost use mathlib.Core.Path.{_≡_};
-ghost use Rattle.rules.specs.Plates.{better, smallestServing, plateAt, platesIn};
+ghost use Rattle.plates.specs.Plates.{better, smallestServing, platesIn, Smallest};
+
+mod bytes;
+
+use bytes::number_at;
 
 // The plate chosen from a list.
-pub(crate) enum Choice {
+pub enum Choice {
     Plate(u32),
     NoPlate,
 }
@@ -29,8 +32,9 @@ fn better_of(total: u64, choice: Choice, plate: u32) -> Choice
 }
 
 // The smallest plate of the list that is not below the total, the first of equals.
-pub(crate) fn smallest_serving(total: u64, plates: &[u32]) -> Choice
+pub fn smallest_serving(total: u64, plates: &[u32]) -> Choice
     ensures { λ r. ⌜ r ≡ smallestServing total (now (plates .entry)) ⌝ }
+    ensures smallest { λ r. ⌜ Smallest total (now (plates .entry)) r ⌝ }
 {
     let mut choice = Choice::NoPlate;
     let mut i: usize = 0;
@@ -41,31 +45,15 @@ pub(crate) fn smallest_serving(total: u64, plates: &[u32]) -> Choice
     choice
 }
 
-// A byte, which is at most 255.
-fn wide(byte: u8) -> u32
-    ensures { λ r. ⌜ r ≡ byte ⌝ }
-    ensures { λ r. ⌜ r ≤ 255 ⌝ }
-{
-    byte as u32
-}
-
-// The plate in the four bytes from index at on.
-fn plate_at(bytes: &[u8], at: usize) -> u32
-    requires { do ⌜ at + 4 ≤ (← ⟦bytes.len()⟧) ⌝ }
-    ensures { λ r. ⌜ r ≡ plateAt (now (bytes .entry)) at ⌝ }
-{
-    let low = wide(bytes[at]) + 256 * wide(bytes[at + 1]);
-    low + 65536 * wide(bytes[at + 2]) + 16777216 * wide(bytes[at + 3])
-}
-
 // The same choice from C's list: bytes, four to a plate, lowest first; a remainder of fewer than four is not read.
-pub(crate) fn smallest_serving_in(total: u64, plates: &[u8]) -> Choice
-    ensures { λ r. ⌜ r ≡ smallestServing total (platesIn (now (plates .entry))) ⌝ }
+pub fn smallest_serving_from_bytes(total: u64, bytes: &[u8]) -> Choice
+    ensures { λ r. ⌜ r ≡ smallestServing total (platesIn (now (bytes .entry))) ⌝ }
+    ensures smallest { λ r. ⌜ Smallest total (platesIn (now (bytes .entry))) r ⌝ }
 {
     let mut choice = Choice::NoPlate;
     let mut at: usize = 0;
-    while 4 <= plates.len() - at {
-        choice = better_of(total, choice, plate_at(plates, at));
+    while 4 <= bytes.len() - at {
+        choice = better_of(total, choice, number_at(bytes, at));
         at += 4;
     }
     choice
