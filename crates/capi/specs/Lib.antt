@@ -1,2 +1,3 @@
 -- What the contracts of capi cite.
 pub mod Call
+pub mod Places

@@ -4,13 +4,17 @@ use rules::EndplateSheet;
 ghost use Prim.Native.Nat.{_≤_};
 ghost use mathlib.Core.Path.{_≡_};
 ghost use Rattle.root.specs.Root.{leastRoot};
-ghost use Rattle.rules.specs.Answer.{endplateAnswer, blindFlangeAnswer, figureAt};
-ghost use Rattle.rules.specs.Exact.{EndplateFigureExact, BlindFlangeFigureExact};
 ghost use Rattle.plates.specs.Plates.{platesIn};
+ghost use Rattle.rules.specs.Answer.{endplateAnswer, blindFlangeAnswer};
 ghost use Rattle.report.specs.Report.{longest};
 ghost use Rattle.sheet.specs.Outcome.{lengthFor, spaceOf};
 ghost use Rattle.sheet.specs.Exact.{SheetExact};
 ghost use Rattle.capi.specs.Call.{endplateCall, blindFlangeCall};
+ghost use Rattle.capi.specs.Places.{figureAt, EndplateFigureExact, BlindFlangeFigureExact};
+
+mod places;
+
+use places::figure_at;
 
 // One figure of an endplate, by its place. The plates are bytes, four to a plate, lowest first.
 #[no_mangle]
@@ -41,7 +45,7 @@ pub extern "C" fn scantling_endplate(
         diameter,
         allowance,
     };
-    rules::endplate_figure(sheet, plates, place)
+    figure_at(rules::endplate_from_bytes(sheet, plates), place)
 }
 
 // One figure of a blind flange, in the same way.
@@ -87,7 +91,7 @@ pub extern "C" fn scantling_blind_flange(
         sa,
         sb,
     };
-    rules::blind_flange_figure(sheet, plates, place)
+    figure_at(rules::blind_flange_from_bytes(sheet, plates), place)
 }
 
 // Answers the sheet in `text`: the length of the report that results. It stands at the front of `out` if that is long

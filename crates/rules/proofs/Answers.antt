@@ -5,12 +5,11 @@ use Prim.Native.Nat.{ℕ}
 use native.Mathlib.Omega.{arith}
 use Rattle.plates.specs.Plates.{smallestServing}
 use Rattle.rules.specs.Answer.{endplateSizing, blindFlangeSizing, totalOf, withPlate, fromPlates}
-use Rattle.rules.specs.Answer.{endplateAnswer, blindFlangeAnswer, Accepted, figureAt}
+use Rattle.rules.specs.Answer.{endplateAnswer, blindFlangeAnswer}
 use Rattle.rules.specs.Numbers.{endplateCause, endplateFigure, endplateReport}
 use Rattle.rules.specs.Numbers.{blindFlangeCause, blindFlangeFigure, blindFlangeReport}
-use Rattle.rules.specs.Exact.{EndplateThicknessExact, EndplateSized, EndplateExact, EndplateFigureExact}
-use Rattle.rules.specs.Exact.{ThicknessExact, EdgeExact, BlindFlangeSized}
-use Rattle.rules.specs.Exact.{BlindFlangeExact, BlindFlangeFigureExact}
+use Rattle.rules.specs.Exact.{EndplateThicknessExact, EndplateExact}
+use Rattle.rules.specs.Exact.{ThicknessExact, EdgeExact, BlindFlangeExact}
 use Rattle.rules.specs.declared.EndplateSheet.{EndplateSheet}
 use Rattle.rules.specs.declared.EndplateFigures.{EndplateFigures}
 use Rattle.rules.specs.declared.BlindFlangeSheet.{BlindFlangeSheet}
@@ -39,29 +38,25 @@ along : (P : Answer → Type 0) {r answer : Answer} → P answer → r ≡ answe
 along P p e = subst P (sym e) p
 
 module _ (s : EndplateSheet) where
-  -- whatever the choice, the need is exact, and at its place
-  abbrev Promised : Answer → Type 0
-  Promised answer = Accepted answer → EndplateSized s answer × EndplateThicknessExact s (figureAt answer 3)
-
+  -- whatever the choice, the need is exact
   by-choice :
       (f : EndplateFigures) →
       EndplateThicknessExact s (f .thickness) →
       (choice : Choice) →
-      Promised (withPlate (Endplate f) choice)
-  unfolding figureAt
-  by-choice f h (Plate plate) z = (h, h)
+      EndplateExact s (withPlate (Endplate f) choice)
+  by-choice f h (Plate plate) z = h
   by-choice f h NoPlate z = absurd (omega (arith, z))
 
-  sized-exact : (choice : Choice) → Promised (withPlate (endplateSizing s) choice)
+  sized-exact : (choice : Choice) → EndplateExact s (withPlate (endplateSizing s) choice)
   unfolding endplateSizing
   sized-exact choice =
-      by-cause (λ z. Promised (withPlate z choice)) (λ cause h z. absurd (h z)) _ _
+      by-cause (λ z. EndplateExact s (withPlate z choice)) (λ cause h z. absurd (h z)) _ _
       (λ e. by-choice _ (endplate-least s e) choice)
 
   module _ (plates : List ℕ) where
     pub endplate-exact : EndplateExact s (endplateAnswer s plates)
     unfolding endplateAnswer
-    endplate-exact z = sized-exact _ z .0
+    endplate-exact = sized-exact _
 
     -- the clauses of the contract: the answer, its numbers, demand 3
     abbrev EndplatePromised : Answer → Type 0
@@ -73,40 +68,26 @@ module _ (s : EndplateSheet) where
     unfolding endplateAnswer
     endplate-promised = along EndplatePromised (refl, (endplate-numbers s plates, endplate-exact))
 
-    -- and of the one by place
-    pub endplate-placed :
-        {r place : ℕ} →
-        r ≡ figureAt (fromPlates (endplateSizing s) plates) place →
-        (r ≡ figureAt (endplateAnswer s plates) place) × EndplateFigureExact s (endplateAnswer s plates) place r
-    unfolding endplateAnswer
-    endplate-placed e = (e, λ z p. rw (e, p) (sized-exact _ z .1))
-
 module _ (s : BlindFlangeSheet) where
-  -- whatever the choice, the need and the edge are exact, and at their places
-  abbrev FlangePromised : Answer → Type 0
-  FlangePromised answer =
-      Accepted answer →
-      BlindFlangeSized s answer × (ThicknessExact s (figureAt answer 9) × EdgeExact s (figureAt answer 10))
-
+  -- whatever the choice, the need and the edge are exact
   by-flange-choice :
       (f : BlindFlangeFigures) →
       ThicknessExact s (f .thickness) × EdgeExact s (f .«edge_thickness») →
       (choice : Choice) →
-      FlangePromised (withPlate (BlindFlange f) choice)
-  unfolding figureAt
-  by-flange-choice f h (Plate plate) z = (h, h)
+      BlindFlangeExact s (withPlate (BlindFlange f) choice)
+  by-flange-choice f h (Plate plate) z = h
   by-flange-choice f h NoPlate z = absurd (omega (arith, z))
 
-  flange-sized-exact : (choice : Choice) → FlangePromised (withPlate (blindFlangeSizing s) choice)
+  flange-sized-exact : (choice : Choice) → BlindFlangeExact s (withPlate (blindFlangeSizing s) choice)
   unfolding blindFlangeSizing
   flange-sized-exact choice =
-      by-cause (λ z. FlangePromised (withPlate z choice)) (λ cause h z. absurd (h z)) _ _
+      by-cause (λ z. BlindFlangeExact s (withPlate z choice)) (λ cause h z. absurd (h z)) _ _
       (λ e. by-flange-choice _ (thickness-near s (within s e), edge-near s (within s e)) choice)
 
   module _ (plates : List ℕ) where
     pub flange-exact : BlindFlangeExact s (blindFlangeAnswer s plates)
     unfolding blindFlangeAnswer
-    flange-exact z = flange-sized-exact _ z .0
+    flange-exact = flange-sized-exact _
 
     -- the clauses of the contract: the answer, its numbers, demand 3
     abbrev BlindFlangePromised : Answer → Type 0
@@ -118,13 +99,3 @@ module _ (s : BlindFlangeSheet) where
     pub flange-promised : {r : Answer} → r ≡ fromPlates (blindFlangeSizing s) plates → BlindFlangePromised r
     unfolding blindFlangeAnswer
     flange-promised = along BlindFlangePromised (refl, (flange-numbers s plates, flange-exact))
-
-    -- and of the one by place
-    pub flange-placed :
-        {r place : ℕ} →
-        r ≡ figureAt (fromPlates (blindFlangeSizing s) plates) place →
-        (r ≡ figureAt (blindFlangeAnswer s plates) place)
-        × BlindFlangeFigureExact s (blindFlangeAnswer s plates) place r
-    unfolding blindFlangeAnswer
-    flange-placed e =
-        (e, λ z. (λ p. rw (e, p) (flange-sized-exact _ z .1 .0), λ p. rw (e, p) (flange-sized-exact _ z .1 .1)))

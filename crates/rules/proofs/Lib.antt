@@ -5,7 +5,6 @@ mod WithinLimits
 mod Products
 mod Bounds
 mod FlangeBounds
-mod PastPlaces
 mod RoundedLoads
 mod Accuracy
 mod Exactness

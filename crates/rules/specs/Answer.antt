@@ -4,7 +4,6 @@ use mathlib.Core.Bool.{cond}
 use mathlib.Core.List.{List, [], _∷_, _++_}
 use mathlib.Core.Path.{_≡_}
 use lib.Dec.{eqb}
-use lib.ListN.{getD}
 use Rattle.rules.specs.Causes.{firstCause, endplateCauses, blindFlangeCauses}
 use Rattle.rules.specs.Figures.{endplateFigures, blindFlangeFigures}
 use Rattle.plates.specs.Plates.{smallestServing}
@@ -99,10 +98,3 @@ abbrev pub reportOf : Answer → List ℕ
 reportOf (Endplate f plate) = endplateList f ++ plate ∷ []
 reportOf (BlindFlange f plate) = blindFlangeList f ++ plate ∷ []
 reportOf (Refused cause figure) = []
-
--- by place, for C: 0 the cause, 1 its figure, from 2 on the report's figures; any other place 0
-abbrev pub places : Answer → List ℕ
-places answer = causeOf answer ∷ figureOf answer ∷ reportOf answer
-
-unfoldable pub figureAt : Answer → ℕ → ℕ
-figureAt answer place = getD (places answer) place 0

@@ -53,10 +53,6 @@ EndplateSized s (Refused cause figure) = ⊥
 abbrev pub EndplateExact : EndplateSheet → Answer → Type 0
 EndplateExact s answer = Accepted answer → EndplateSized s answer
 
--- by place, for C: the figure r of an accepted call is exact at the place of the need
-abbrev pub EndplateFigureExact : EndplateSheet → Answer → ℕ → ℕ → Type 0
-EndplateFigureExact s answer place r = Accepted answer → place ≡ 3 → EndplateThicknessExact s r
-
 -- the exact loads of a sheet: V1, V2 and V
 abbrev pub exactOperatingLoadOf : BlindFlangeSheet → ℕ
 exactOperatingLoadOf s =
@@ -96,8 +92,3 @@ BlindFlangeSized s (Refused cause figure) = ⊥
 
 abbrev pub BlindFlangeExact : BlindFlangeSheet → Answer → Type 0
 BlindFlangeExact s answer = Accepted answer → BlindFlangeSized s answer
-
--- by place, for C: at the places of the need and of the edge
-abbrev pub BlindFlangeFigureExact : BlindFlangeSheet → Answer → ℕ → ℕ → Type 0
-BlindFlangeFigureExact s answer place r =
-    Accepted answer → (place ≡ 9 → ThicknessExact s r) × (place ≡ 10 → EdgeExact s r)

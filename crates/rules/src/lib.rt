@@ -1,8 +1,8 @@
 // Sizing of flat endplates and blind flanges to BS 853-2:1996, clauses 5 and 8, on whole numbers.
 ghost use mathlib.Core.Path.{_≡_};
 ghost use Rattle.rules.specs.Answer.{endplateAnswer, blindFlangeAnswer};
-ghost use Rattle.rules.specs.Answer.{causeOf, figureOf, reportOf, figureAt};
-ghost use Rattle.rules.specs.Exact.{EndplateExact, EndplateFigureExact, BlindFlangeExact, BlindFlangeFigureExact};
+ghost use Rattle.rules.specs.Answer.{causeOf, figureOf, reportOf};
+ghost use Rattle.rules.specs.Exact.{EndplateExact, BlindFlangeExact};
 ghost use Rattle.rules.specs.Numbers.{endplateCause, endplateFigure, endplateReport};
 ghost use Rattle.rules.specs.Numbers.{blindFlangeCause, blindFlangeFigure, blindFlangeReport};
 ghost use Rattle.plates.specs.Plates.{platesIn};
@@ -13,12 +13,10 @@ mod compare;
 mod figures;
 mod gasket;
 mod loads;
-mod places;
 mod sizing;
 mod stress;
 mod thickness;
 
-use places::figure_at;
 use plates::smallest_serving;
 use plates::smallest_serving_from_bytes;
 use sizing::blind_flange_sizing;
@@ -159,23 +157,30 @@ pub fn blind_flange(s: BlindFlangeSheet, plates: &[u32]) -> Answer
     with_plate(sizing, choice)
 }
 
-// For C, one figure of an endplate by its place: 0 the cause, 1 its figure, from 2 on those of the report; 0 at any
-// other. The plates are bytes, four to a plate, lowest first.
-pub fn endplate_figure(s: EndplateSheet, plates: &[u8], place: u32) -> u64
-    ensures { λ r. ⌜ r ≡ figureAt (endplateAnswer s (platesIn (now (plates .entry)))) place ⌝ }
-    ensures exact { λ r. ⌜ EndplateFigureExact s (endplateAnswer s (platesIn (now (plates .entry)))) place r ⌝ }
+// The same from C's plates: bytes, four to a plate, lowest first.
+pub fn endplate_from_bytes(s: EndplateSheet, plates: &[u8]) -> Answer
+    ensures { λ r. ⌜ r ≡ endplateAnswer s (platesIn (now (plates .entry))) ⌝ }
+    ensures numbers { λ r.
+        let ps = platesIn (now (plates .entry)) in
+        ⌜ (causeOf r ≡ endplateCause s ps) × (figureOf r ≡ endplateFigure s ps) × (reportOf r ≡ endplateReport s ps) ⌝ }
+    ensures exact { λ r. ⌜ EndplateExact s r ⌝ }
 {
     let sizing = endplate_sizing(s);
     let choice = smallest_serving_from_bytes(total_of(sizing), plates);
-    figure_at(with_plate(sizing, choice), place)
+    with_plate(sizing, choice)
 }
 
-// For C, one figure of a blind flange by its place, in the same way.
-pub fn blind_flange_figure(s: BlindFlangeSheet, plates: &[u8], place: u32) -> u64
-    ensures { λ r. ⌜ r ≡ figureAt (blindFlangeAnswer s (platesIn (now (plates .entry)))) place ⌝ }
-    ensures exact { λ r. ⌜ BlindFlangeFigureExact s (blindFlangeAnswer s (platesIn (now (plates .entry)))) place r ⌝ }
+// The same of a blind flange.
+pub fn blind_flange_from_bytes(s: BlindFlangeSheet, plates: &[u8]) -> Answer
+    ensures { λ r. ⌜ r ≡ blindFlangeAnswer s (platesIn (now (plates .entry))) ⌝ }
+    ensures numbers { λ r.
+        let ps = platesIn (now (plates .entry)) in
+        ⌜ (causeOf r ≡ blindFlangeCause s ps)
+        × (figureOf r ≡ blindFlangeFigure s ps)
+        × (reportOf r ≡ blindFlangeReport s ps) ⌝ }
+    ensures exact { λ r. ⌜ BlindFlangeExact s r ⌝ }
 {
     let sizing = blind_flange_sizing(s);
     let choice = smallest_serving_from_bytes(total_of(sizing), plates);
-    figure_at(with_plate(sizing, choice), place)
+    with_plate(sizing, choice)
 }

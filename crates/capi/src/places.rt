@@ -1,12 +1,13 @@
 // An answer's figures by place, for C. Places 0 and 1 of an accepted sheet, its cause and figure, are 0.
-use crate::Answer;
-use crate::BlindFlangeFigures;
-use crate::EndplateFigures;
+use rules::Answer;
+use rules::BlindFlangeFigures;
+use rules::EndplateFigures;
 ghost use mathlib.Core.Path.{_≡_};
-ghost use Rattle.rules.specs.Answer.{figureAt};
+ghost use Rattle.rules.specs.declared.Answer.the-variants.{Endplate, BlindFlange, Refused};
+ghost use Rattle.capi.specs.Places.{figureAt};
 
 fn endplate_at(f: EndplateFigures, plate: u32, place: u32) -> u64
-    ensures { λ r. ⌜ r ≡ figureAt (Answer.Endplate f plate) place ⌝ }
+    ensures { λ r. ⌜ r ≡ figureAt (Endplate f plate) place ⌝ }
 {
     let figures = [0, 0, f.design_stress, f.thickness, f.total, plate as u64];
     if place < 6 {
@@ -17,7 +18,7 @@ fn endplate_at(f: EndplateFigures, plate: u32, place: u32) -> u64
 }
 
 fn blind_flange_at(f: BlindFlangeFigures, plate: u32, place: u32) -> u64
-    ensures { λ r. ⌜ r ≡ figureAt (Answer.BlindFlange f plate) place ⌝ }
+    ensures { λ r. ⌜ r ≡ figureAt (BlindFlange f plate) place ⌝ }
 {
     let figures = [
         0,
@@ -42,7 +43,7 @@ fn blind_flange_at(f: BlindFlangeFigures, plate: u32, place: u32) -> u64
 }
 
 fn refused_at(cause: u32, figure: u64, place: u32) -> u64
-    ensures { λ r. ⌜ r ≡ figureAt (Answer.Refused cause figure) place ⌝ }
+    ensures { λ r. ⌜ r ≡ figureAt (Refused cause figure) place ⌝ }
 {
     if place == 0 {
         cause as u64

@@ -1,7 +1,7 @@
 -- `places::figure_at` meets its contract. Assumes nothing.
 use borrow.Author.Needs.{needs}
-use Rattle.rules.proofs.places.figure_at.Statement.{statement}
-use Rattle.rules.proofs.places.figure_at.Tie as tie
+use Rattle.capi.proofs.places.figure_at.Statement.{statement}
+use Rattle.capi.proofs.places.figure_at.Tie as tie
 
 returns : tie.Need-returns
 returns c = rw (c .before .before .answer .given .1) (c .endplate-at .ensures)

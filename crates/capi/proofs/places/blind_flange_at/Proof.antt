@@ -1,11 +1,11 @@
 -- `places::blind_flange_at` meets its contract. Assumes nothing.
 use mathlib.Core.Path.{refl, sym}
 use borrow.Author.Needs.{needs}
-use Rattle.rules.specs.Answer.{figureAt}
+use Rattle.capi.specs.Places.{figureAt}
 use Rattle.rules.specs.declared.Answer.the-variants.{BlindFlange}
-use Rattle.rules.proofs.PastPlaces.{past-places}
-use Rattle.rules.proofs.places.blind_flange_at.Statement.{statement}
-use Rattle.rules.proofs.places.blind_flange_at.Tie as tie
+use Rattle.capi.proofs.PastPlaces.{past-places}
+use Rattle.capi.proofs.places.blind_flange_at.Statement.{statement}
+use Rattle.capi.proofs.places.blind_flange_at.Tie as tie
 
 returns : tie.Need-returns
 unfolding figureAt
