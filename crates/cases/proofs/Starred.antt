@@ -14,7 +14,7 @@ use Rattle.rules.specs.Loads.{exactOperatingLoad, exactSeatingLoad, operatingLo
 use Rattle.rules.specs.Bolts.{boltsSufficient}
 use Rattle.rules.specs.BlindFlange.{flangeThickness, edgeUnder}
 use Rattle.rules.specs.Figures.{endplateFigures, blindFlangeFigures}
-use Rattle.rules.specs.Causes.{endplateCauses, blindFlangeLimits, blindFlangeCauses}
+use Rattle.rules.specs.Causes.{firstOf, endplateCauses, flangeLimits, boltsCauses, blindFlangeCauses}
 use Rattle.plates.specs.Plates.{smallestServing}
 use Rattle.rules.specs.Answer.{endplateSizing, blindFlangeSizing, endplateAnswer, blindFlangeAnswer}
 use Rattle.text.specs.Ascii.{ascii, lineFeed}
@@ -143,7 +143,7 @@ pub starred : map (λ row. worked (row .0)) table ≡ map (λ row. row .1) table
 unfolding column designStress ceilDiv wholeRootBy leastRoot leastRootOver endplateStress endplateThickness
     wideWidth effectiveWidth reactionDiameter exactOperatingLoad exactSeatingLoad operatingLoad seatingLoad
     flangeLoad boltsSufficient flangeThickness edgeUnder endplateFigures blindFlangeFigures endplateCauses
-    blindFlangeLimits blindFlangeCauses endplateSizing blindFlangeSizing smallestServing endplateAnswer
+    firstOf flangeLimits boltsCauses blindFlangeCauses endplateSizing blindFlangeSizing smallestServing endplateAnswer
     blindFlangeAnswer indexOf indexAfter before after valueOf numberOf numbersOf platesOf decimal numberLine
     reportText lineOf platesLine linesOf partOf sheetOf answerOf
 starred = refl

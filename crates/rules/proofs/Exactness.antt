@@ -13,7 +13,7 @@ use Rattle.rules.specs.Loads.{operatingLoad, seatingLoad, flangeLoad}
 use Rattle.rules.specs.Bolts.{boltArea}
 use Rattle.rules.specs.BlindFlange.{edgeUnder, flangeThickness-least, edgeUnder-least}
 use Rattle.rules.specs.Figures.{ambient, endplateFigures, blindFlangeFigures}
-use Rattle.rules.specs.Causes.{firstCause, endplateCauses, blindFlangeLimits}
+use Rattle.rules.specs.Causes.{firstCause, endplateCauses, blindFlangeLimit}
 use Rattle.rules.specs.Exact.{EndplateHolds, AmbientEdgeHolds, OperatingEdgeHolds, Near}
 use Rattle.rules.specs.Exact.{ThicknessExact, EdgeExact}
 use Rattle.rules.specs.Exact.{exactOperatingLoadOf, exactSeatingLoadOf, exactFlangeLoadOf}
@@ -40,7 +40,7 @@ endplate-least s e = endplateThickness-least (s .form) _ (s .pressure) (s .diame
 rises : (x f t u : ℕ) → t ≤ u → x ≤ f * (t * t) → x ≤ f * (u * u)
 rises x f t u l h = omega (arith, mul-le-mul-left f (square-le l))
 
-module _ (s : BlindFlangeSheet) (e : firstCause (blindFlangeLimits s) ≡ 0) where
+module _ (s : BlindFlangeSheet) (e : blindFlangeLimit s ≡ 0) where
   a : BlindFlangeWithin s
   a = blind-flange-within s e
 

@@ -1,6 +1,6 @@
 -- Laws that the proofs of the functions cite.
 mod Rules
-mod Order
+mod CheckingOrder
 mod WithinLimits
 mod Products
 mod Bounds

@@ -1,14 +1,14 @@
 -- An answer in document 01's numbers: those that follow from what the calculation is given. Assumes nothing.
 use mathlib.Core.Path.{_≡_, refl, _∙_}
+use mathlib.Core.Logic.{_≢_}
 use mathlib.Core.Bool.{Bool, true, false, not, cond}
 use mathlib.Core.List.{List, [], _∷_, _++_}
-use Prim.Native.Nat.{ℕ, _<_}
+use Prim.Native.Nat.{ℕ}
 use native.Mathlib.Omega.{arith}
 use borrow.Author.Tests.{ne-eqb}
-use lib.Dec.{T, eqb, ltb, ltb→lt}
-use Rattle.tables.specs.TableRule.{every, both}
-use Rattle.rules.specs.Causes.{any, Causes, firstCause, endplateCauses}
-use Rattle.rules.specs.Causes.{blindFlangeLimits, blindFlangeCauses}
+use lib.Dec.{eqb}
+use Rattle.rules.specs.Causes.{Tests, any, Causes, firstOf, firstCause}
+use Rattle.rules.specs.Causes.{endplateCauses, flangeLimits, boltsCauses, blindFlangeCauses}
 use Rattle.rules.specs.Figures.{endplateFigures, blindFlangeFigures}
 use Rattle.plates.specs.Plates.{smallestServing, plateOf, isChosen}
 use Rattle.rules.specs.Answer.{refusedOr, totalOf, withPlate, fromPlates, causeOf, figureOf, reportOf}
@@ -27,23 +27,33 @@ use Rattle.plates.specs.declared.Choice.the-variants.{Plate, NoPlate}
 use Rattle.rules.specs.declared.sizing.Sizing.{Sizing}
 use Rattle.rules.specs.declared.sizing.Sizing.the-variants.{Endplate, BlindFlange, Refused}
 use Rattle.rules.specs.declared.Answer.{Answer}
-use Rattle.rules.proofs.Order.{numbered, in-turn}
+use Rattle.rules.proofs.CheckingOrder.{in-turn, not-among}
 
 -- ---- the causes before 14
 
--- a cause's number is below 14
-abbrev early : ℕ × List Bool → Bool
-early c = ltb (c .0) 14
+-- checking order but for 14
+abbrev beforePlate : List ℕ
+beforePlate = 2 ∷ 3 ∷ 4 ∷ 5 ∷ 6 ∷ 7 ∷ 8 ∷ 9 ∷ 10 ∷ 11 ∷ 12 ∷ 13 ∷ []
 
-first-early : (cs : Causes) → T (every early cs) → firstCause cs < 14
-first-early [] t = omega arith
-first-early (c ∷ cs) t =
-    let p = both (early c) (every early cs) t in
-    by-test (any (c .1)) (ltb→lt (c .0) 14 (p .0)) (first-early cs (p .1))
-  where
-    by-test : (b : Bool) → c .0 < 14 → firstCause cs < 14 → cond b (c .0) (firstCause cs) < 14
-    by-test true h r = h
-    by-test false h r = r
+-- 14 is looked for where none before it applies, and is not among them
+abbrev PlateLast : Causes → Tests → Type 0
+PlateLast cs t =
+    let k = firstCause cs in
+    (firstCause (cs ++ (14, t) ∷ []) ≡ cond (eqb k 0) (cond (any t) 14 0) k) × (k ≢ 14)
+
+endplate-last : (s : EndplateSheet) (t : Tests) → PlateLast (endplateCauses s) t
+unfolding firstOf endplateCauses
+endplate-last s t = (
+  in-turn beforePlate (14 ∷ []) (endplateCauses s ++ (14, t) ∷ []) tt,
+  not-among 14 beforePlate (endplateCauses s) (λ e. omega arith) tt,
+)
+
+flange-last : (s : BlindFlangeSheet) (t : Tests) → PlateLast (blindFlangeCauses s) t
+unfolding firstOf blindFlangeCauses flangeLimits boltsCauses
+flange-last s t = (
+  in-turn beforePlate (14 ∷ []) (blindFlangeCauses s ++ (14, t) ∷ []) tt,
+  not-among 14 beforePlate (blindFlangeCauses s) (λ e. omega arith) tt,
+)
 
 -- ---- the numbers
 
@@ -64,7 +74,7 @@ Last sized figures c =
     (withPlate sized c)
 
 -- from the causes, the figures and the plates; `sized` is what is answered where no cause applies
-module _ (cs : Causes) (t : T (every numbered cs)) (e : T (every early cs)) (sized : Sizing) (figures plates : List ℕ)
+module _ (cs : Causes) (plate-last : (t : Tests) → PlateLast cs t) (sized : Sizing) (figures plates : List ℕ)
   where
     abbrev total : ℕ
     total = totalOf sized
@@ -73,7 +83,7 @@ module _ (cs : Causes) (t : T (every numbered cs)) (e : T (every early cs)) (siz
     choice = smallestServing total plates
 
     cause : causeFrom cs total plates ≡ cond (eqb (firstCause cs) 0) (lastCause choice) (firstCause cs)
-    cause = in-turn cs _ t ∙ rw (chosen-serves total plates)
+    cause = plate-last _ .0 ∙ rw (chosen-serves total plates)
 
     pub told :
         ((c : Choice) → Last sized figures c) →
@@ -92,7 +102,7 @@ module _ (cs : Causes) (t : T (every numbered cs)) (e : T (every early cs)) (siz
             (fromPlates (cond b sized (Refused (firstCause cs))) plates)
         by-test true z = last choice
         by-test false z =
-            (refl, rw (ne-eqb (firstCause cs) 14 (λ q. omega (arith, first-early cs e))), rw z)
+            (refl, rw (ne-eqb (firstCause cs) 14 (plate-last [] .1)), rw z)
 
 -- ---- both parts
 
@@ -106,14 +116,14 @@ by-flange-choice f NoPlate = (refl, refl, refl)
 
 pub endplate-numbers : (s : EndplateSheet) (plates : List ℕ) →
     Told (endplateCause s plates) (endplateFigure s plates) (endplateReport s plates) (endplateAnswer s plates)
-unfolding endplateCauses endplateSizing endplateAnswer endplateCause endplateFigure endplateReport
+unfolding endplateSizing endplateAnswer endplateCause endplateFigure endplateReport
 endplate-numbers s plates =
-    told (endplateCauses s) tt tt (Endplate (endplateFigures s)) (endplateList (endplateFigures s)) plates
+    told (endplateCauses s) (endplate-last s) (Endplate (endplateFigures s)) (endplateList (endplateFigures s)) plates
     (by-choice (endplateFigures s))
 
 pub flange-numbers : (s : BlindFlangeSheet) (plates : List ℕ) →
     Told (blindFlangeCause s plates) (blindFlangeFigure s plates) (blindFlangeReport s plates) (blindFlangeAnswer s plates)
-unfolding blindFlangeLimits blindFlangeCauses blindFlangeSizing blindFlangeAnswer blindFlangeCause blindFlangeFigure blindFlangeReport
+unfolding blindFlangeSizing blindFlangeAnswer blindFlangeCause blindFlangeFigure blindFlangeReport
 flange-numbers s plates =
-    told (blindFlangeCauses s) tt tt (BlindFlange (blindFlangeFigures s)) (blindFlangeList (blindFlangeFigures s)) plates
+    told (blindFlangeCauses s) (flange-last s) (BlindFlange (blindFlangeFigures s)) (blindFlangeList (blindFlangeFigures s)) plates
     (by-flange-choice (blindFlangeFigures s))

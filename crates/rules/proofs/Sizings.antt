@@ -7,7 +7,7 @@ use Prim.Native.Nat.{ℕ}
 use borrow.Author.Tests.{eqb-true, eqb-false, ne-eqb}
 use lib.Dec.{eqb}
 use Rattle.rules.specs.Causes.{any, firstCause, endplateCauses}
-use Rattle.rules.specs.Causes.{blindFlangeLimits, boltsOverloaded, blindFlangeCauses}
+use Rattle.rules.specs.Causes.{testsOf, firstOf, flangeLimits, boltsCauses, blindFlangeCauses, blindFlangeLimit}
 use Rattle.rules.specs.Figures.{endplateFigures, blindFlangeFigures}
 use Rattle.rules.specs.Answer.{refusedOr, endplateSizing, blindFlangeSizing}
 use Rattle.rules.specs.declared.EndplateSheet.{EndplateSheet}
@@ -16,7 +16,7 @@ use Rattle.rules.specs.declared.BlindFlangeSheet.{BlindFlangeSheet}
 use Rattle.rules.specs.declared.BlindFlangeFigures.{BlindFlangeFigures}
 use Rattle.rules.specs.declared.sizing.Sizing.{Sizing}
 use Rattle.rules.specs.declared.sizing.Sizing.the-variants.{Endplate, BlindFlange, Refused}
-use Rattle.rules.proofs.Order.{in-turn}
+use Rattle.rules.proofs.CheckingOrder.{in-turn}
 
 refused : (cause : ℕ) (sized : Sizing) → cause ≢ 0 → Refused cause ≡ refusedOr cause sized
 refused cause sized h = simp (ne-eqb cause 0 h)
@@ -46,48 +46,53 @@ module _ (s : EndplateSheet) where
   endplate-sized e q = rw (q, ← e)
 
 module _ (s : BlindFlangeSheet) where
+  -- 13 applies
+  abbrev pub overloaded : Bool
+  overloaded = any (testsOf (blindFlangeCauses s) 13)
+
   -- the first cause, from that of the limits and the bolt check
   first :
-      let limit = firstCause (blindFlangeLimits s) in
-      firstCause (blindFlangeCauses s) ≡ cond (eqb limit 0) (cond (any (boltsOverloaded s)) 13 0) limit
-  unfolding blindFlangeCauses blindFlangeLimits
-  first = in-turn (blindFlangeLimits s) ((13, boltsOverloaded s) ∷ []) tt
+      let limit = blindFlangeLimit s in
+      firstCause (blindFlangeCauses s) ≡ cond (eqb limit 0) (cond overloaded 13 0) limit
+  unfolding firstOf blindFlangeCauses flangeLimits boltsCauses
+  first =
+      in-turn (2 ∷ 3 ∷ 4 ∷ 5 ∷ 6 ∷ 7 ∷ 8 ∷ 9 ∷ 10 ∷ 11 ∷ 12 ∷ []) (13 ∷ 14 ∷ []) (blindFlangeCauses s) tt
 
   pub flange-refused :
-      {cause : ℕ} → cause ≡ firstCause (blindFlangeLimits s) → cause ≢ 0 → Refused cause ≡ blindFlangeSizing s
+      {cause : ℕ} → cause ≡ blindFlangeLimit s → cause ≢ 0 → Refused cause ≡ blindFlangeSizing s
   unfolding blindFlangeSizing
   flange-refused {cause} e h =
       let k : cause ≡ firstCause (blindFlangeCauses s) = rw (first, ← e, ne-eqb cause 0 h) in
       rw (← k) (refused _ _ h)
 
   pub flange-overloaded :
-      0 ≡ firstCause (blindFlangeLimits s) → any (boltsOverloaded s) ≡ true → Refused 13 ≡ blindFlangeSizing s
+      0 ≡ blindFlangeLimit s → overloaded ≡ true → Refused 13 ≡ blindFlangeSizing s
   unfolding blindFlangeSizing
   flange-overloaded e h =
       let k : 13 ≡ firstCause (blindFlangeCauses s) = rw (first, ← e, h) in
       rw (← k)
 
   no-cause :
-      firstCause (blindFlangeLimits s) ≡ 0 → any (boltsOverloaded s) ≡ false → 0 ≡ firstCause (blindFlangeCauses s)
+      blindFlangeLimit s ≡ 0 → overloaded ≡ false → 0 ≡ firstCause (blindFlangeCauses s)
   no-cause e h = rw (first, e, h)
 
   pub flange-sized :
       {f : BlindFlangeFigures} →
-      0 ≡ firstCause (blindFlangeLimits s) →
-      any (boltsOverloaded s) ≡ false →
+      0 ≡ blindFlangeLimit s →
+      overloaded ≡ false →
       f ≡ blindFlangeFigures s →
       BlindFlange f ≡ blindFlangeSizing s
   unfolding blindFlangeSizing
   flange-sized e h q = rw (q, ← no-cause (sym e) h)
 
   -- where no cause before 14 applies, no limit is passed
-  pub within : firstCause (blindFlangeCauses s) ≡ 0 → firstCause (blindFlangeLimits s) ≡ 0
-  within e = by-test (eqb (firstCause (blindFlangeLimits s)) 0) refl (rw first at e)
+  pub within : firstCause (blindFlangeCauses s) ≡ 0 → blindFlangeLimit s ≡ 0
+  within e = by-test (eqb (blindFlangeLimit s) 0) refl (rw first at e)
     where
       by-test :
           (b : Bool) →
-          eqb (firstCause (blindFlangeLimits s)) 0 ≡ b →
-          cond b (cond (any (boltsOverloaded s)) 13 0) (firstCause (blindFlangeLimits s)) ≡ 0 →
-          firstCause (blindFlangeLimits s) ≡ 0
+          eqb (blindFlangeLimit s) 0 ≡ b →
+          cond b (cond (overloaded) 13 0) (blindFlangeLimit s) ≡ 0 →
+          blindFlangeLimit s ≡ 0
       by-test true t z = eqb-true _ _ t
       by-test false t z = z

@@ -2,6 +2,7 @@
 -- stand in Causes alone. Assumes nothing.
 use mathlib.Core.Path.{_≡_}
 use mathlib.Core.Logic.{_≢_}
+use mathlib.Core.List.{[], _∷_}
 use Prim.Native.Nat.{ℕ, _*_, _^_, _≤_}
 use native.Mathlib.Nat.{mul-le-mul}
 use native.Mathlib.Omega.{arith}
@@ -10,10 +11,11 @@ use Rattle.tables.specs.DesignStress.{designStress}
 use Rattle.rules.specs.Endplate.{endplateStress}
 use Rattle.rules.specs.Gasket.{effectiveWidth, reactionDiameter}
 use Rattle.rules.specs.Bolts.{boltArea}
-use Rattle.rules.specs.Causes.{firstCause, endplateCauses, blindFlangeLimits}
+use Rattle.rules.specs.Causes.{firstCause, checkingOrder, endplateCauses}
+use Rattle.rules.specs.Causes.{flangeLimits, boltsCauses, blindFlangeCauses, blindFlangeLimit}
 use Rattle.rules.specs.declared.EndplateSheet.{EndplateSheet}
 use Rattle.rules.specs.declared.BlindFlangeSheet.{BlindFlangeSheet}
-use Rattle.rules.proofs.Order.{none-applies}
+use Rattle.rules.proofs.CheckingOrder.{limit}
 use Rattle.rules.proofs.Bounds.{effectiveWidth-most}
 
 pub record EndplateWithin (s : EndplateSheet) : Type 0 where
@@ -25,12 +27,12 @@ pub record EndplateWithin (s : EndplateSheet) : Type 0 where
 pub endplate-within : (s : EndplateSheet) → firstCause (endplateCauses s) ≡ 0 → EndplateWithin s
 unfolding endplateCauses
 endplate-within s e =
-    let n = none-applies (endplateCauses s) tt e in
+    let n = limit checkingOrder (endplateCauses s) tt e in
     record {
-      pressure = let h = n 3 1 in omega (arith, ltb-false);
-      stressed = eqb-false _ _ (n 5 0);
-      diameter = let h = n 6 1 in omega (arith, ltb-false);
-      allowance = let h = n 7 0 in omega (arith, ltb-false);
+      pressure = let h = n 3 tt 1 in omega (arith, ltb-false);
+      stressed = eqb-false _ _ (n 5 tt 0);
+      diameter = let h = n 6 tt 1 in omega (arith, ltb-false);
+      allowance = let h = n 7 tt 0 in omega (arith, ltb-false);
     }
 
 pub record BlindFlangeWithin (s : BlindFlangeSheet) : Type 0 where
@@ -56,29 +58,29 @@ area-most bolt root count hb hr hc =
     let root-most : root ≤ 128614 = omega (arith, mul-le-mul hb hb) in
     omega (arith, mul-le-mul hc root-most)
 
-pub blind-flange-within : (s : BlindFlangeSheet) → firstCause (blindFlangeLimits s) ≡ 0 → BlindFlangeWithin s
-unfolding blindFlangeLimits
+pub blind-flange-within : (s : BlindFlangeSheet) → blindFlangeLimit s ≡ 0 → BlindFlangeWithin s
+unfolding flangeLimits boltsCauses blindFlangeCauses
 blind-flange-within s e =
-    let n = none-applies (blindFlangeLimits s) tt e in
+    let n = limit (2 ∷ 3 ∷ 4 ∷ 5 ∷ 6 ∷ 7 ∷ 8 ∷ 9 ∷ 10 ∷ 11 ∷ 12 ∷ []) (blindFlangeCauses s) tt e in
     record {
-      pressure = let h = n 1 1 in omega (arith, ltb-false);
-      stressed = eqb-false _ _ (n 3 0);
-      od = let h = n 4 1 in omega (arith, ltb-false);
-      od-least = let h = n 4 0 in omega (arith, ltb-false);
-      allowance = let h = n 5 0 in omega (arith, ltb-false);
-      width = omega (arith, effectiveWidth-most (s .width) (let h = n 6 1 in omega (arith, ltb-false)));
-      m = let h = n 7 0 in omega (arith, ltb-false);
-      y = let h = n 7 1 in omega (arith, ltb-false);
+      pressure = let h = n 3 tt 1 in omega (arith, ltb-false);
+      stressed = eqb-false _ _ (n 5 tt 0);
+      od = let h = n 6 tt 1 in omega (arith, ltb-false);
+      od-least = let h = n 6 tt 0 in omega (arith, ltb-false);
+      allowance = let h = n 7 tt 0 in omega (arith, ltb-false);
+      width = omega (arith, effectiveWidth-most (s .width) (let h = n 8 tt 1 in omega (arith, ltb-false)));
+      m = let h = n 9 tt 0 in omega (arith, ltb-false);
+      y = let h = n 9 tt 1 in omega (arith, ltb-false);
       area =
-          let bolt = n 8 1 in
-          let root = n 8 3 in
-          let count = n 8 5 in
+          let bolt = n 10 tt 1 in
+          let root = n 10 tt 3 in
+          let count = n 10 tt 5 in
           area-most (s .bolt) (s .root) (s .count)
           (omega (arith, ltb-false)) (omega (arith, ltb-false)) (omega (arith, ltb-false));
-      sa = let h = n 9 1 in omega (arith, ltb-false);
-      sb = let h = n 9 3 in omega (arith, ltb-false);
-      sb-least = omega (arith, eqb-false (s .sb) 0 (n 9 2));
-      ratio = let h = n 9 4 in omega (arith, ltb-false);
-      circle-least = let h = n 10 0 in omega (arith, ltb-false);
-      circle-most = let h = n 10 1 in omega (arith, ltb-false);
+      sa = let h = n 11 tt 1 in omega (arith, ltb-false);
+      sb = let h = n 11 tt 3 in omega (arith, ltb-false);
+      sb-least = omega (arith, eqb-false (s .sb) 0 (n 11 tt 2));
+      ratio = let h = n 11 tt 4 in omega (arith, ltb-false);
+      circle-least = let h = n 12 tt 0 in omega (arith, ltb-false);
+      circle-most = let h = n 12 tt 1 in omega (arith, ltb-false);
     }

@@ -1,4 +1,5 @@
--- Causes of a refusal, in checking order (document 01): 2 to 13 of both calculations. 14, no plate, is in Answer.
+-- Causes of a refusal (document 01): the tests of each, and the order in which they are checked. 2 to 13 of both
+-- calculations are here; 14, no plate, is in Numbers.
 use Prim.Native.Nat.{ℕ, _+_, _*_}
 use mathlib.Core.Bool.{Bool, false, _||_, not, Bool·beq, cond}
 use mathlib.Core.List.{List, [], _∷_, _++_, foldl}
@@ -80,22 +81,37 @@ boltStressRefused sa sb = eqb sa 0 ∷ ltb 400 sa ∷ eqb sb 0 ∷ ltb 400 sb �
 abbrev pub circleRefused : ℕ → ℕ → ℕ → ℕ → Tests
 circleRefused C od bolt G = ltb C (od + 10 * bolt) ∷ ltb (3 * G) (2 * C) ∷ []
 
--- ---- the order: a cause's number, and its tests
+-- 13: the bolts do not carry
+abbrev pub boltsOverloaded : ℕ → ℕ → ℕ → ℕ → ℕ → Tests
+boltsOverloaded Wm1 Wm2 A sa sb = not (boltsSufficient Wm1 Wm2 A sa sb) ∷ []
+
+-- ---- causes, each a number and its tests
 
 abbrev pub Causes : Type 0
 Causes = List (ℕ × Tests)
 
--- the number of the first that applies, 0 where none does
-abbrev pub firstCause : Causes → ℕ
-firstCause [] = 0
-firstCause (c ∷ cs) = cond (any (c .1)) (c .0) (firstCause cs)
+-- the tests of the cause with this number, wherever it stands; none where the list has no such cause
+abbrev pub testsOf : Causes → ℕ → Tests
+testsOf [] number = []
+testsOf (c ∷ cs) number = cond (eqb (c .0) number) (c .1) (testsOf cs number)
 
--- 2 to 7 of an endplate
+-- the first of these numbers whose cause applies, 0 where none does
+unfoldable pub firstOf : List ℕ → Causes → ℕ
+firstOf [] causes = 0
+firstOf (number ∷ numbers) causes = cond (any (testsOf causes number)) number (firstOf numbers causes)
+
+-- checking order: of several causes that apply, the first in this order answers
+abbrev pub checkingOrder : List ℕ
+checkingOrder = 2 ∷ 3 ∷ 4 ∷ 5 ∷ 6 ∷ 7 ∷ 8 ∷ 9 ∷ 10 ∷ 11 ∷ 12 ∷ 13 ∷ 14 ∷ []
+
+abbrev pub firstCause : Causes → ℕ
+firstCause causes = firstOf checkingOrder causes
+
+-- ---- of an endplate
+
 unfoldable pub endplateCauses : EndplateSheet → Causes
 endplateCauses s =
-    (2, formRefused (s .form))
-    ∷ (2, materialRefused (s .material))
-    ∷ (2, shellRefused (s .form) (s .shell))
+    (2, formRefused (s .form) ++ materialRefused (s .material) ++ shellRefused (s .form) (s .shell))
     ∷ (3, pressureRefused (s .pressure))
     ∷ (4, temperatureRefused (s .temperature))
     ∷ (5, noStress (endplateStress (s .form) (s .material) (s .shell) (s .temperature)))
@@ -103,9 +119,11 @@ endplateCauses s =
     ∷ (7, allowanceRefused (s .allowance))
     ∷ []
 
--- 2 to 12: the limits within which the figures are worked
-unfoldable pub blindFlangeLimits : BlindFlangeSheet → Causes
-blindFlangeLimits s =
+-- ---- of a blind flange
+
+-- 2 to 9: all but what is about its bolts
+unfoldable pub flangeLimits : BlindFlangeSheet → Causes
+flangeLimits s =
     (2, materialRefused (s .material))
     ∷ (3, pressureRefused (s .pressure))
     ∷ (4, temperatureRefused (s .temperature))
@@ -114,18 +132,22 @@ blindFlangeLimits s =
     ∷ (7, allowanceRefused (s .allowance))
     ∷ (8, widthRefused (s .od) (s .width))
     ∷ (9, gasketRefused (s .m) (s .y))
-    ∷ (10, boltsRefused (s .bolt) (s .root) (s .count))
-    ∷ (11, boltStressRefused (s .sa) (s .sb))
-    ∷ (12, circleRefused (s .circle) (s .od) (s .bolt) (reactionDiameter (s .od) (s .width)))
     ∷ []
 
--- 13: the bolts do not carry
-abbrev pub boltsOverloaded : BlindFlangeSheet → Tests
-boltsOverloaded s =
+-- the bolts' own, for any diameter, root area and count of bolts on this flange
+unfoldable pub boltsCauses : BlindFlangeSheet → ℕ → ℕ → ℕ → Causes
+boltsCauses s bolt root count =
     let f = blindFlangeFigures s in
-    let A = boltArea (s .root) (s .count) in
-    not (boltsSufficient (f .«operating_load») (f .«seating_load») A (s .sa) (s .sb)) ∷ []
+    (10, boltsRefused bolt root count)
+    ∷ (12, circleRefused (s .circle) (s .od) bolt (reactionDiameter (s .od) (s .width)))
+    ∷ (13, boltsOverloaded (f .«operating_load») (f .«seating_load») (boltArea root count) (s .sa) (s .sb))
+    ∷ []
 
--- 2 to 13 of a blind flange
 unfoldable pub blindFlangeCauses : BlindFlangeSheet → Causes
-blindFlangeCauses s = blindFlangeLimits s ++ ((13, boltsOverloaded s) ∷ [])
+blindFlangeCauses s =
+    flangeLimits s ++ (11, boltStressRefused (s .sa) (s .sb)) ∷ boltsCauses s (s .bolt) (s .root) (s .count)
+
+-- the first of those that are judged before the loads are
+abbrev pub blindFlangeLimit : BlindFlangeSheet → ℕ
+blindFlangeLimit s =
+    firstOf (2 ∷ 3 ∷ 4 ∷ 5 ∷ 6 ∷ 7 ∷ 8 ∷ 9 ∷ 10 ∷ 11 ∷ 12 ∷ []) (blindFlangeCauses s)

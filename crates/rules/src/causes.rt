@@ -1,4 +1,4 @@
-// Causes of a refusal: the tests of 2 to 12, and the first that applies.
+// Causes of a refusal: their numbers, the tests of 2 to 12, and the first that applies.
 //
 // `|` stands where `||` would do: the answer is then the definition's own expression.
 use crate::BlindFlangeSheet;
@@ -9,10 +9,38 @@ use crate::stress::endplate_stress;
 ghost use mathlib.Core.Path.{_≡_};
 ghost use mathlib.Core.Bool.{cond};
 ghost use lib.Dec.{eqb};
-ghost use Rattle.rules.specs.Causes.{any, firstCause, endplateCauses, blindFlangeLimits};
+ghost use Rattle.rules.specs.Causes.{any, firstCause, endplateCauses, blindFlangeLimit};
 ghost use Rattle.rules.specs.Causes.{materialRefused, shellRefused, formRefused, pressureRefused};
 ghost use Rattle.rules.specs.Causes.{temperatureRefused, noStress, diameterRefused, allowanceRefused};
 ghost use Rattle.rules.specs.Causes.{widthRefused, gasketRefused, boltsRefused, boltStressRefused, circleRefused};
+
+const MATERIAL: u32 = 2;
+
+const PRESSURE: u32 = 3;
+
+const TEMPERATURE: u32 = 4;
+
+const NO_STRESS: u32 = 5;
+
+const DIAMETER: u32 = 6;
+
+const ALLOWANCE: u32 = 7;
+
+const WIDTH: u32 = 8;
+
+const GASKET: u32 = 9;
+
+const BOLTS: u32 = 10;
+
+const BOLT_STRESS: u32 = 11;
+
+const CIRCLE: u32 = 12;
+
+// The bolts do not carry.
+pub(crate) const BOLTS_OVERLOADED: u32 = 13;
+
+// No listed plate serves.
+pub(crate) const NO_PLATE: u32 = 14;
 
 fn material_refused(material: u32) -> bool
     ensures { λ r. ⌜ r ≡ any (materialRefused material) ⌝ }
@@ -110,32 +138,30 @@ fn or_cause(found: u32, number: u32, applies: bool) -> u32
     if applies { number } else { 0 }
 }
 
-// The first cause that applies to an endplate but for 14; 0 where none does.
+// The first cause that applies to an endplate but for 14, in checking order; 0 where none does.
 pub(crate) fn endplate_cause(s: EndplateSheet) -> u32
     ensures { λ r. ⌜ r ≡ firstCause (endplateCauses s) ⌝ }
 {
     let stress = endplate_stress(s.form, s.material, s.shell, s.temperature);
     let form = form_refused(s.form);
-    let material = material_refused(s.material);
+    let plate = material_refused(s.material);
     let shell = shell_refused(s.form, s.shell);
     let pressure = pressure_refused(s.pressure);
     let temperature = temperature_refused(s.temperature);
     let unstressed = no_stress(stress);
     let diameter = diameter_refused(s.diameter);
     let allowance = allowance_refused(s.allowance);
-    let k = or_cause(0, 2, form);
-    let k = or_cause(k, 2, material);
-    let k = or_cause(k, 2, shell);
-    let k = or_cause(k, 3, pressure);
-    let k = or_cause(k, 4, temperature);
-    let k = or_cause(k, 5, unstressed);
-    let k = or_cause(k, 6, diameter);
-    or_cause(k, 7, allowance)
+    let k = or_cause(0, MATERIAL, form | (plate | shell));
+    let k = or_cause(k, PRESSURE, pressure);
+    let k = or_cause(k, TEMPERATURE, temperature);
+    let k = or_cause(k, NO_STRESS, unstressed);
+    let k = or_cause(k, DIAMETER, diameter);
+    or_cause(k, ALLOWANCE, allowance)
 }
 
-// The first cause that applies to a blind flange, of 2 to 12; 0 where none does.
+// The first of the causes 2 to 12 that applies to a blind flange, in checking order; 0 where none does.
 pub(crate) fn blind_flange_limits(s: BlindFlangeSheet) -> u32
-    ensures { λ r. ⌜ r ≡ firstCause (blindFlangeLimits s) ⌝ }
+    ensures { λ r. ⌜ r ≡ blindFlangeLimit s ⌝ }
 {
     let stress = tables::design_stress(s.material, s.temperature);
     let g = reaction_diameter(s.od, s.width);
@@ -150,15 +176,15 @@ pub(crate) fn blind_flange_limits(s: BlindFlangeSheet) -> u32
     let bolts = bolts_refused(s.bolt, s.root, s.count);
     let bolt_stress = bolt_stress_refused(s.sa, s.sb);
     let circle = circle_refused(s.circle, s.od, s.bolt, g);
-    let k = or_cause(0, 2, material);
-    let k = or_cause(k, 3, pressure);
-    let k = or_cause(k, 4, temperature);
-    let k = or_cause(k, 5, unstressed);
-    let k = or_cause(k, 6, diameter);
-    let k = or_cause(k, 7, allowance);
-    let k = or_cause(k, 8, width);
-    let k = or_cause(k, 9, gasket);
-    let k = or_cause(k, 10, bolts);
-    let k = or_cause(k, 11, bolt_stress);
-    or_cause(k, 12, circle)
+    let k = or_cause(0, MATERIAL, material);
+    let k = or_cause(k, PRESSURE, pressure);
+    let k = or_cause(k, TEMPERATURE, temperature);
+    let k = or_cause(k, NO_STRESS, unstressed);
+    let k = or_cause(k, DIAMETER, diameter);
+    let k = or_cause(k, ALLOWANCE, allowance);
+    let k = or_cause(k, WIDTH, width);
+    let k = or_cause(k, GASKET, gasket);
+    let k = or_cause(k, BOLTS, bolts);
+    let k = or_cause(k, BOLT_STRESS, bolt_stress);
+    or_cause(k, CIRCLE, circle)
 }

@@ -15,7 +15,7 @@ use crate::thickness::edge_thickness;
 use crate::thickness::endplate_thickness;
 use crate::thickness::flange_thickness;
 ghost use mathlib.Core.Path.{_≡_};
-ghost use Rattle.rules.specs.Causes.{firstCause, endplateCauses, blindFlangeLimits};
+ghost use Rattle.rules.specs.Causes.{firstCause, endplateCauses, blindFlangeLimit};
 ghost use Rattle.rules.specs.Figures.{endplateFigures, blindFlangeFigures};
 
 // The column of the stress cold, °C.
@@ -35,7 +35,7 @@ pub(crate) fn endplate_figures(s: EndplateSheet) -> EndplateFigures
 }
 
 pub(crate) fn blind_flange_figures(s: BlindFlangeSheet) -> BlindFlangeFigures
-    requires { ⌜ firstCause (blindFlangeLimits s) ≡ 0 ⌝ }
+    requires { ⌜ blindFlangeLimit s ≡ 0 ⌝ }
     ensures { λ r. ⌜ r ≡ blindFlangeFigures s ⌝ }
 {
     let stress = tables::design_stress(s.material, s.temperature);

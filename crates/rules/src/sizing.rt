@@ -6,15 +6,12 @@ use crate::EndplateFigures;
 use crate::EndplateSheet;
 use crate::bolts;
 use crate::causes;
+use crate::causes::BOLTS_OVERLOADED;
+use crate::causes::NO_PLATE;
 use crate::figures;
 use plates::Choice;
 ghost use mathlib.Core.Path.{_≡_};
 ghost use Rattle.rules.specs.Answer.{endplateSizing, blindFlangeSizing, totalOf, withPlate};
-
-// Causes that are found after the limits: the bolts do not carry; no listed plate serves.
-const BOLTS_OVERLOADED: u32 = 13;
-
-const NO_PLATE: u32 = 14;
 
 // The figures of a part before its plate is chosen, or the first cause to refuse it.
 pub(crate) enum Sizing {

@@ -1,13 +1,15 @@
--- `causes::blind_flange_limits` meets its contract: row by row in rising order. Assumes nothing.
+-- `causes::blind_flange_limits` meets its contract: cause by cause in checking order. Assumes nothing.
 use mathlib.Core.Path.{refl, _∙_}
 use borrow.Author.Needs.{needs}
-use Rattle.rules.specs.Causes.{any, noStress, boltsRefused, circleRefused, blindFlangeLimits}
-use Rattle.rules.proofs.Order.{in-order, then, via}
+use mathlib.Core.List.{[], _∷_}
+use Rattle.rules.specs.Causes.{any, noStress, boltsRefused, circleRefused}
+use Rattle.rules.specs.Causes.{flangeLimits, boltsCauses, blindFlangeCauses}
+use Rattle.rules.proofs.CheckingOrder.{in-order, next-cause, via}
 use Rattle.rules.proofs.causes.blind_flange_limits.Statement.{statement}
 use Rattle.rules.proofs.causes.blind_flange_limits.Tie as tie
 
 returns : tie.Need-returns
-unfolding blindFlangeLimits
+unfolding flangeLimits boltsCauses blindFlangeCauses
 returns c =
     let r10 = c .before in
     let r9 = r10 .before in
@@ -32,22 +34,22 @@ returns c =
     let material = pressure .before in
     let g = material .before in
     let a = g .before .before .args .s in
-    let k1 = then 2 {before = 0} (r1 .or-cause .ensures) refl (material .material-refused .ensures) in
-    let k2 = then 3 (r2 .or-cause2 .ensures) k1 (pressure .pressure-refused .ensures) in
-    let k3 = then 4 (r3 .or-cause3 .ensures) k2 (temperature .temperature-refused .ensures) in
+    let k1 = next-cause 2 {before = 0} (r1 .or-cause .ensures) refl (material .material-refused .ensures) in
+    let k2 = next-cause 3 (r2 .or-cause2 .ensures) k1 (pressure .pressure-refused .ensures) in
+    let k3 = next-cause 4 (r3 .or-cause3 .ensures) k2 (temperature .temperature-refused .ensures) in
     let stressed = via noStress (unstressed .no-stress .ensures) (g .before .design-stress .ensures) in
-    let k4 = then 5 (r4 .or-cause4 .ensures) k3 stressed in
-    let k5 = then 6 (r5 .or-cause5 .ensures) k4 (diameter .diameter-refused .ensures) in
-    let k6 = then 7 (r6 .or-cause6 .ensures) k5 (allowance .allowance-refused .ensures) in
-    let k7 = then 8 (r7 .or-cause7 .ensures) k6 (width .width-refused .ensures) in
-    let k8 = then 9 (r8 .or-cause8 .ensures) k7 (gasket .gasket-refused .ensures) in
+    let k4 = next-cause 5 (r4 .or-cause4 .ensures) k3 stressed in
+    let k5 = next-cause 6 (r5 .or-cause5 .ensures) k4 (diameter .diameter-refused .ensures) in
+    let k6 = next-cause 7 (r6 .or-cause6 .ensures) k5 (allowance .allowance-refused .ensures) in
+    let k7 = next-cause 8 (r7 .or-cause7 .ensures) k6 (width .width-refused .ensures) in
+    let k8 = next-cause 9 (r8 .or-cause8 .ensures) k7 (gasket .gasket-refused .ensures) in
     let bolted = any (boltsRefused (a .bolt) (a .root) (a .count)) in
-    let k9 = then 10 {b = bolted} (r9 .or-cause9 .ensures) k8 (bolts .bolts-refused .ensures) in
-    let k10 = then 11 (r10 .or-cause10 .ensures) k9 (stresses .bolt-stress-refused .ensures) in
+    let k9 = next-cause 10 {b = bolted} (r9 .or-cause9 .ensures) k8 (bolts .bolts-refused .ensures) in
+    let k10 = next-cause 11 (r10 .or-cause10 .ensures) k9 (stresses .bolt-stress-refused .ensures) in
     let test = circleRefused (a .circle) (a .od) (a .bolt) in
     let circled = via test (circle .circle-refused .ensures) (g .reaction-diameter .ensures) in
-    let k11 = then 12 (c .or-cause11 .ensures) k10 circled in
-    k11 ∙ in-order (blindFlangeLimits a) tt
+    let k11 = next-cause 12 (c .or-cause11 .ensures) k10 circled in
+    k11 ∙ in-order (2 ∷ 3 ∷ 4 ∷ 5 ∷ 6 ∷ 7 ∷ 8 ∷ 9 ∷ 10 ∷ 11 ∷ 12 ∷ []) (blindFlangeCauses a) tt
 
 pub blind-flange-limits-spec : {M : Type 1} → statement M
 blind-flange-limits-spec =

@@ -3,20 +3,20 @@ use mathlib.Core.Path.{_≡_, sym, _∙_}
 use mathlib.Core.Bool.{not}
 use native.Mathlib.Omega.{arith}
 use borrow.Author.Needs.{needs}
-use Rattle.rules.specs.Causes.{any, firstCause, blindFlangeLimits, boltsOverloaded}
+use Rattle.rules.specs.Causes.{flangeLimits, boltsCauses, blindFlangeCauses, blindFlangeLimit}
 use Rattle.rules.proofs.WithinLimits.{blind-flange-within}
 use Rattle.rules.proofs.FlangeBounds.{figures-operating, figures-seating}
-use Rattle.rules.proofs.Sizings.{flange-refused, flange-overloaded, flange-sized}
+use Rattle.rules.proofs.Sizings as sizings
 use Rattle.rules.proofs.sizing.blind_flange_sizing.Statement.{statement}
 use Rattle.rules.proofs.sizing.blind_flange_sizing.Tie as tie
 
 returns : tie.Need-returns
-returns c = flange-refused _ (c .before .blind-flange-limits .ensures) (c .if1 .taken)
+returns c = sizings.flange-refused _ (c .before .blind-flange-limits .ensures) (c .if1 .taken)
 
 -- no limit is passed
 within :
     (c : tie.After-blind-flange-figures) →
-    0 ≡ firstCause (blindFlangeLimits (c .before .before .before .args .s))
+    0 ≡ blindFlangeLimit (c .before .before .before .args .s)
 within c = sym (c .before .if1 .left) ∙ c .before .before .blind-flange-limits .ensures
 
 bolts-sufficient-requires : tie.Need-bolts-sufficient-requires
@@ -30,20 +30,21 @@ bolts-sufficient-requires c κs =
 -- the bolt check is the definition's
 overloaded :
     (c : tie.After-bolts-sufficient) →
-    any (boltsOverloaded (c .before .before .before .before .before .args .s)) ≡ not (c .bolts-sufficient .result)
+    sizings.overloaded (c .before .before .before .before .before .args .s) ≡ not (c .bolts-sufficient .result)
+unfolding flangeLimits boltsCauses blindFlangeCauses
 overloaded c =
     rw (c .bolts-sufficient .ensures, c .before .bolt-area .ensures, c .before .before .blind-flange-figures .ensures)
 
 returns-2 : tie.Need-returns-2
 returns-2 c =
     let b = c .before in
-    flange-overloaded _ (within (b .before .before)) (overloaded b ∙ c .if2 .taken)
+    sizings.flange-overloaded _ (within (b .before .before)) (overloaded b ∙ c .if2 .taken)
 
 returns-3 : tie.Need-returns-3
 returns-3 c =
     let b = c .before in
     let f = b .before .before in
-    flange-sized _ (within f) (overloaded b ∙ c .if2 .left) (f .blind-flange-figures .ensures)
+    sizings.flange-sized _ (within f) (overloaded b ∙ c .if2 .left) (f .blind-flange-figures .ensures)
 
 pub blind-flange-sizing-spec : {M : Type 1} → statement M
 blind-flange-sizing-spec =
