@@ -10,7 +10,7 @@ use Rattle.tables.specs.DesignStress.{column, designStress}
 use Rattle.root.specs.Root.{ceilDiv, wholeRootBy, leastRoot, leastRootOver}
 use Rattle.rules.specs.Endplate.{endplateStress, endplateThickness}
 use Rattle.rules.specs.Gasket.{wideWidth, effectiveWidth, reactionDiameter}
-use Rattle.rules.specs.Loads.{exactOperatingLoad, exactSeatingLoad, operatingLoad, seatingLoad, flangeLoad}
+use Rattle.rules.specs.Loads.{exactOperatingLoad, exactSeatingLoad, operatingLoad, seatingLoad, flangeLoad, gasketOf}
 use Rattle.rules.specs.Bolts.{boltsSufficient}
 use Rattle.rules.specs.BlindFlange.{flangeThickness, edgeUnder}
 use Rattle.rules.specs.Figures.{endplateFigures, blindFlangeFigures}
@@ -142,7 +142,7 @@ table =
 pub starred : map (λ row. worked (row .0)) table ≡ map (λ row. row .1) table
 unfolding column designStress ceilDiv wholeRootBy leastRoot leastRootOver endplateStress endplateThickness
     wideWidth effectiveWidth reactionDiameter exactOperatingLoad exactSeatingLoad operatingLoad seatingLoad
-    flangeLoad boltsSufficient flangeThickness edgeUnder endplateFigures blindFlangeFigures endplateCauses
+    flangeLoad gasketOf boltsSufficient flangeThickness edgeUnder endplateFigures blindFlangeFigures endplateCauses
     firstOf flangeLimits boltsCauses blindFlangeCauses endplateSizing blindFlangeSizing smallestServing endplateAnswer
     blindFlangeAnswer indexOf indexAfter before after valueOf numberOf numbersOf platesOf decimal numberLine
     reportText lineOf platesLine linesOf partOf sheetOf answerOf

@@ -19,7 +19,7 @@ use Rattle.plates.specs.declared.Choice.the-variants.{Plate, NoPlate}
 use Rattle.rules.specs.declared.sizing.Sizing.{Sizing}
 use Rattle.rules.specs.declared.sizing.Sizing.the-variants.{Endplate, BlindFlange}
 use Rattle.rules.specs.declared.Answer.{Answer}
-use Rattle.rules.proofs.Sizings.{by-cause, within}
+use Rattle.rules.proofs.Sizings.{by-cause}
 use Rattle.rules.proofs.Numbers.{Told, endplate-numbers, flange-numbers}
 use Rattle.rules.proofs.Exactness.{endplate-least, thickness-near, edge-near}
 
@@ -82,7 +82,7 @@ module _ (s : BlindFlangeSheet) where
   unfolding blindFlangeSizing
   flange-sized-exact choice =
       by-cause (λ z. BlindFlangeExact s (withPlate z choice)) (λ cause h z. absurd (h z)) _ _
-      (λ e. by-flange-choice _ (thickness-near s (within s e), edge-near s (within s e)) choice)
+      (λ e. by-flange-choice _ (thickness-near s e, edge-near s e) choice)
 
   module _ (plates : List ℕ) where
     pub flange-exact : BlindFlangeExact s (blindFlangeAnswer s plates)

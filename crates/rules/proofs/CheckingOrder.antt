@@ -106,6 +106,22 @@ in-turn (n ∷ ns) ms cs t =
     by-test true z r = rw z
     by-test false z r = r
 
+-- where no cause of the whole applies, none of either part does
+pub none-of-both :
+    (ns ms : List ℕ) (cs : Causes) →
+    T (every numbered ns) →
+    firstOf (ns ++ ms) cs ≡ 0 →
+    (firstOf ns cs ≡ 0) × (firstOf ms cs ≡ 0)
+none-of-both ns ms cs t e = by-test (eqb (firstOf ns cs) 0) refl (sym (in-turn ns ms cs t) ∙ e)
+  where
+    by-test :
+        (b : Bool) →
+        eqb (firstOf ns cs) 0 ≡ b →
+        cond b (firstOf ms cs) (firstOf ns cs) ≡ 0 →
+        (firstOf ns cs ≡ 0) × (firstOf ms cs ≡ 0)
+    by-test true q z = (eqb-true _ _ q, z)
+    by-test false q z = absurd (eqb-false _ _ q z)
+
 -- a number that is not in a part is not answered there
 pub not-among :
     (number : ℕ) (ns : List ℕ) (cs : Causes) →

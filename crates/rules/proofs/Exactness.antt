@@ -8,19 +8,20 @@ use Rattle.tables.specs.DesignStress.{designStress}
 use Rattle.root.specs.Least.{Least}
 use Rattle.root.specs.Laws.{square-le}
 use Rattle.rules.specs.Endplate.{endplateStress, endplateThickness-least}
-use Rattle.rules.specs.Gasket.{effectiveWidth, reactionDiameter}
+use Rattle.rules.specs.Gasket.{reactionDiameter}
 use Rattle.rules.specs.Loads.{operatingLoad, seatingLoad, flangeLoad}
+use Rattle.rules.specs.Loads.{exactOperatingLoadOf, exactSeatingLoadOf, gasketOf}
 use Rattle.rules.specs.Bolts.{boltArea}
 use Rattle.rules.specs.BlindFlange.{edgeUnder, flangeThickness-least, edgeUnder-least}
 use Rattle.rules.specs.Figures.{ambient, endplateFigures, blindFlangeFigures}
-use Rattle.rules.specs.Causes.{firstCause, endplateCauses, blindFlangeLimit}
+use Rattle.rules.specs.Causes.{firstCause, endplateCauses, blindFlangeCauses}
 use Rattle.rules.specs.Exact.{EndplateHolds, AmbientEdgeHolds, OperatingEdgeHolds, Near}
 use Rattle.rules.specs.Exact.{ThicknessExact, EdgeExact}
-use Rattle.rules.specs.Exact.{exactOperatingLoadOf, exactSeatingLoadOf, exactFlangeLoadOf}
+use Rattle.rules.specs.Exact.{exactFlangeLoadOf}
 use Rattle.rules.specs.declared.EndplateSheet.{EndplateSheet}
 use Rattle.rules.specs.declared.BlindFlangeSheet.{BlindFlangeSheet}
-use Rattle.rules.proofs.WithinLimits.{BlindFlangeWithin, endplate-within, blind-flange-within}
-use Rattle.rules.proofs.FlangeBounds.{Stresses, stresses, Ring, ring}
+use Rattle.rules.proofs.WithinLimits.{FlangeWithin, BoltingWithin, endplate-within, both-within}
+use Rattle.rules.proofs.FlangeBounds.{Stresses, stresses, Circle, circle}
 use Rattle.rules.proofs.RoundedLoads.{operating-low, operating-high, flange-low, flange-high}
 use Rattle.rules.proofs.Accuracy.{loaded, near-map, near-both}
 
@@ -40,9 +41,12 @@ endplate-least s e = endplateThickness-least (s .form) _ (s .pressure) (s .diame
 rises : (x f t u : ℕ) → t ≤ u → x ≤ f * (t * t) → x ≤ f * (u * u)
 rises x f t u l h = omega (arith, mul-le-mul-left f (square-le l))
 
-module _ (s : BlindFlangeSheet) (e : blindFlangeLimit s ≡ 0) where
-  a : BlindFlangeWithin s
-  a = blind-flange-within s e
+module _ (s : BlindFlangeSheet) (none : firstCause (blindFlangeCauses s) ≡ 0) where
+  f : FlangeWithin s
+  f = both-within s none .0
+
+  a : BoltingWithin s
+  a = both-within s none .1
 
   abbrev S : ℕ
   S = designStress (s .material) (s .temperature)
@@ -56,11 +60,12 @@ module _ (s : BlindFlangeSheet) (e : blindFlangeLimit s ≡ 0) where
   abbrev lever : ℕ
   lever = s .circle - G
 
-  stress : Stresses s a S S0
-  stress = stresses s a refl refl
+  stress : Stresses s f S S0
+  stress = stresses s f refl refl
 
-  diameter : Ring s a G (effectiveWidth (s .width))
-  diameter = ring s a refl refl
+  diameter : Circle s f a G
+  unfolding gasketOf
+  diameter = circle s f a {gasket = gasketOf s} refl
 
   -- Wm1 is at most 1 N too much
   slack-operating : 954500 * 10 ^ 10 * lever ≤ 10 ^ 10 * (100 * S * G) * 797
@@ -82,7 +87,7 @@ module _ (s : BlindFlangeSheet) (e : blindFlangeLimit s ≡ 0) where
   Wm1 = operatingLoad V1
 
   pub thickness-near : ThicknessExact s (blindFlangeFigures s .thickness)
-  unfolding blindFlangeFigures
+  unfolding blindFlangeFigures gasketOf
   thickness-near =
       near-map (λ t. omega arith)
       (loaded (10 ^ 10) (100 * S * G) (3 * (G * G * G) * s .pressure) Wm1 V1 (10 ^ 10) lever _ _
@@ -116,5 +121,5 @@ module _ (s : BlindFlangeSheet) (e : blindFlangeLimit s ≡ 0) where
       slack-ambient)
 
   pub edge-near : EdgeExact s (blindFlangeFigures s .«edge_thickness»)
-  unfolding blindFlangeFigures
+  unfolding blindFlangeFigures gasketOf
   edge-near = near-both (rises _ _) (rises _ _) edge-ambient edge-operating

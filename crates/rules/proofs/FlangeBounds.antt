@@ -1,21 +1,22 @@
--- Bounds of a blind flange's figures within the limits, each from those that it is worked from. Assumes nothing.
+-- Bounds of a blind flange's gasket and figures within the limits, each from those that it is worked from. Assumes nothing.
 use mathlib.Core.Path.{_≡_, refl}
-use Prim.Native.Nat.{ℕ, _+_, _^_, _≤_}
+use Prim.Native.Nat.{ℕ, _+_, _-_, _/_, _^_, _≤_}
 use native.Mathlib.Omega.{arith}
 use Rattle.tables.specs.DesignStress.{designStress}
 use Rattle.tables.specs.Laws.{stress-least, stress-most, ambient-greatest}
 use Rattle.rules.specs.Gasket.{effectiveWidth, reactionDiameter}
-use Rattle.rules.specs.Loads.{exactOperatingLoad, exactSeatingLoad, operatingLoad, seatingLoad, flangeLoad}
+use Rattle.rules.specs.Loads.{flangeLoad, gasketOf}
 use Rattle.rules.specs.Bolts.{boltArea}
 use Rattle.rules.specs.BlindFlange.{flangeThickness, edgeThickness}
-use Rattle.rules.specs.Figures.{ambient, blindFlangeFigures}
+use Rattle.rules.specs.Figures.{ambient}
 use Rattle.rules.specs.declared.BlindFlangeSheet.{BlindFlangeSheet}
-use Rattle.rules.proofs.WithinLimits.{BlindFlangeWithin}
+use Rattle.rules.specs.declared.gasket.Gasket.{Gasket}
+use Rattle.rules.proofs.WithinLimits.{FlangeWithin, BoltingWithin}
 use Rattle.rules.proofs.Bounds.{inset, operatingLoad-most, seatingLoad-most, flangeLoad-most}
 use Rattle.rules.proofs.Bounds.{flangeThickness-most, edgeUnder-most}
 use Rattle.rules.proofs.Products.{edge-products, bending-products}
 
-module _ (s : BlindFlangeSheet) (a : BlindFlangeWithin s) where
+module _ (s : BlindFlangeSheet) (a : FlangeWithin s) where
   pub record Stresses (S S0 : ℕ) : Type 0 where
     pub least : 18 ≤ S
     pub ambient-least : 18 ≤ S0
@@ -34,52 +35,73 @@ module _ (s : BlindFlangeSheet) (a : BlindFlangeWithin s) where
       let ambient-most = stress-most (s .material) ambient in
       omega arith
 
-  pub record Ring (G b : ℕ) : Type 0 where
-    pub least : 1 ≤ G
-    pub most : G ≤ 2 ^ 15
+  -- ---- the gasket
+
+  pub record RingMost (G b : ℕ) : Type 0 where
+    pub diameter : G ≤ 2 ^ 15
     pub width : b ≤ 2 ^ 11
-    pub above : G ≤ s .circle
-    pub near : s .circle ≤ G + 2 ^ 14
 
-  pub ring : {G b : ℕ} → G ≡ reactionDiameter (s .od) (s .width) → b ≡ effectiveWidth (s .width) → Ring G b
-  ring e e' = let i = inset (s .od) (s .width) in omega arith
+  pub ring-most : {G b : ℕ} → b ≡ effectiveWidth (s .width) → G ≡ s .od - b / 5 → RingMost G b
+  ring-most e e' = omega arith
 
-  module _ {G b : ℕ} (r : Ring G b) where
-    pub operating : {Wm1 : ℕ} → Wm1 ≡ operatingLoad (exactOperatingLoad G b (s .m) (s .pressure)) → Wm1 ≤ 2 ^ 26
-    operating e = rw e (operatingLoad-most (r .most) (r .width) (a .m) (a .pressure))
+  pub record GasketMost (gasket : Gasket) : Type 0 where
+    pub ring : RingMost (gasket .«reaction_diameter») (gasket .«effective_width»)
+    pub operating : gasket .«operating_load» ≤ 2 ^ 26
+    pub seating : gasket .«seating_load» ≤ 2 ^ 26
 
-    pub seating : {Wm2 : ℕ} → Wm2 ≡ seatingLoad (exactSeatingLoad G b (s .y)) → Wm2 ≤ 2 ^ 26
-    seating e = rw e (seatingLoad-most (r .most) (r .width) (a .y))
+  gasket-of-most : GasketMost (gasketOf s)
+  unfolding gasketOf
+  gasket-of-most =
+      let r = ring-most refl (inset (s .od) (s .width)) in
+      record {
+        ring = r;
+        operating = operatingLoad-most (r .diameter) (r .width) (a .m) (a .pressure);
+        seating = seatingLoad-most (r .diameter) (r .width) (a .y);
+      }
 
-    module _ {Wm1 Wm2 W : ℕ} (h1 : Wm1 ≤ 2 ^ 26) (h2 : Wm2 ≤ 2 ^ 26) where
-      pub flange : W ≡ flangeLoad Wm1 Wm2 (boltArea (s .root) (s .count)) (s .sa) (s .sb) → W ≤ 2 ^ 30
-      flange e =
-          let A = boltArea (s .root) (s .count) in
-          omega (arith, a .area, flangeLoad-most Wm1 Wm2 A (s .sa) (s .sb) (a .sa) (a .sb-least) (a .ratio))
+  pub gasket-most : {gasket : Gasket} → gasket ≡ gasketOf s → GasketMost gasket
+  gasket-most e = rw e gasket-of-most
 
-  -- the products under the roots fit, so that the thicknesses do
-  module _ {S S0 G b Wm1 : ℕ} (t : Stresses S S0) (r : Ring G b) (h1 : Wm1 ≤ 2 ^ 30) where
-    pub thickness-most : flangeThickness S G (s .pressure) (s .circle) Wm1 ≤ 2 ^ 32
-    thickness-most =
-        let moment = edge-products (t .most) (r .most) (r .near) h1 in
-        let bending = bending-products (r .most) (a .pressure) in
-        flangeThickness-most S G (s .circle) (omega arith) (r .least) (s .pressure) Wm1 (omega arith)
+  -- ---- with the bolts
 
-    pub edge-most :
-        {W edge : ℕ} → edge ≡ edgeThickness S S0 G (s .circle) Wm1 W → W ≤ 2 ^ 30 → edge ≤ 2 ^ 32
-    edge-most {W} e h =
-        let ambient-edge = edge-products (t .ambient-most) (r .most) (r .near) h in
-        let operating-edge = edge-products (t .most) (r .most) (r .near) h1 in
-        omega (
-          arith,
-          edgeUnder-most S0 G (s .circle) (omega arith) (r .least) W (omega arith),
-          edgeUnder-most S G (s .circle) (omega arith) (r .least) Wm1 (omega arith),
-        )
+  module _ (b : BoltingWithin s) where
+    pub record Circle (G : ℕ) : Type 0 where
+      pub least : 1 ≤ G
+      pub above : G ≤ s .circle
+      pub near : s .circle ≤ G + 2 ^ 14
 
-  pub figures-operating : blindFlangeFigures s .«operating_load» ≤ 2 ^ 26
-  unfolding blindFlangeFigures
-  figures-operating = operating (ring refl refl) refl
+    circle-of : Circle (reactionDiameter (s .od) (s .width))
+    circle-of = let i = inset (s .od) (s .width) in omega arith
 
-  pub figures-seating : blindFlangeFigures s .«seating_load» ≤ 2 ^ 26
-  unfolding blindFlangeFigures
-  figures-seating = seating (ring refl refl) refl
+    pub circle : {gasket : Gasket} → gasket ≡ gasketOf s → Circle (gasket .«reaction_diameter»)
+    unfolding gasketOf
+    circle e = rw e circle-of
+
+    pub flange :
+        {Wm1 Wm2 W : ℕ} →
+        Wm1 ≤ 2 ^ 26 →
+        Wm2 ≤ 2 ^ 26 →
+        W ≡ flangeLoad Wm1 Wm2 (boltArea (s .root) (s .count)) (s .sa) (s .sb) →
+        W ≤ 2 ^ 30
+    flange {Wm1} {Wm2} h1 h2 e =
+        let A = boltArea (s .root) (s .count) in
+        omega (arith, b .area, flangeLoad-most Wm1 Wm2 A (s .sa) (s .sb) (b .sa) (b .sb-least) (b .ratio))
+
+    -- the products under the roots fit, so that the thicknesses do
+    module _ {S S0 G Wm1 : ℕ} (t : Stresses S S0) (hG : G ≤ 2 ^ 15) (r : Circle G) (h1 : Wm1 ≤ 2 ^ 30) where
+      pub thickness-most : flangeThickness S G (s .pressure) (s .circle) Wm1 ≤ 2 ^ 32
+      thickness-most =
+          let moment = edge-products (t .most) hG (r .near) h1 in
+          let bending = bending-products hG (a .pressure) in
+          flangeThickness-most S G (s .circle) (omega arith) (r .least) (s .pressure) Wm1 (omega arith)
+
+      pub edge-most :
+          {W edge : ℕ} → edge ≡ edgeThickness S S0 G (s .circle) Wm1 W → W ≤ 2 ^ 30 → edge ≤ 2 ^ 32
+      edge-most {W} e h =
+          let ambient-edge = edge-products (t .ambient-most) hG (r .near) h in
+          let operating-edge = edge-products (t .most) hG (r .near) h1 in
+          omega (
+            arith,
+            edgeUnder-most S0 G (s .circle) (omega arith) (r .least) W (omega arith),
+            edgeUnder-most S G (s .circle) (omega arith) (r .least) Wm1 (omega arith),
+          )

@@ -1,13 +1,13 @@
 -- The definitions of a part's size by their cases: a refusal, and what follows where no cause applies. Assumes nothing.
-use mathlib.Core.Path.{_≡_, refl, sym}
+use mathlib.Core.Path.{_≡_, refl, ap, _∙_}
 use mathlib.Core.Logic.{_≢_}
 use mathlib.Core.Bool.{Bool, true, false, cond}
-use mathlib.Core.List.{[], _∷_}
+use mathlib.Core.List.{[], _∷_, _++_}
 use Prim.Native.Nat.{ℕ}
 use borrow.Author.Tests.{eqb-true, eqb-false, ne-eqb}
 use lib.Dec.{eqb}
 use Rattle.rules.specs.Causes.{any, firstCause, endplateCauses}
-use Rattle.rules.specs.Causes.{testsOf, firstOf, flangeLimits, boltsCauses, blindFlangeCauses, blindFlangeLimit}
+use Rattle.rules.specs.Causes.{testsOf, firstOf, boltingOrder, flangeLimits, boltsCauses, blindFlangeCauses}
 use Rattle.rules.specs.Figures.{endplateFigures, blindFlangeFigures}
 use Rattle.rules.specs.Answer.{refusedOr, endplateSizing, blindFlangeSizing}
 use Rattle.rules.specs.declared.EndplateSheet.{EndplateSheet}
@@ -46,53 +46,50 @@ module _ (s : EndplateSheet) where
   endplate-sized e q = rw (q, ← e)
 
 module _ (s : BlindFlangeSheet) where
-  -- 13 applies
+  -- the steps: 2 to 9, then 10 to 12, then 13
+  abbrev limit : ℕ
+  limit = firstCause (flangeLimits s)
+
+  abbrev bolting : ℕ
+  bolting = firstOf boltingOrder (blindFlangeCauses s)
+
   abbrev pub overloaded : Bool
   overloaded = any (testsOf (blindFlangeCauses s) 13)
 
-  -- the first cause, from that of the limits and the bolt check
   first :
-      let limit = blindFlangeLimit s in
-      firstCause (blindFlangeCauses s) ≡ cond (eqb limit 0) (cond overloaded 13 0) limit
-  unfolding firstOf blindFlangeCauses flangeLimits boltsCauses
+      firstCause (blindFlangeCauses s) ≡ cond (eqb limit 0) (cond (eqb bolting 0) (cond overloaded 13 0) bolting) limit
+  unfolding firstOf flangeLimits boltsCauses blindFlangeCauses
   first =
-      in-turn (2 ∷ 3 ∷ 4 ∷ 5 ∷ 6 ∷ 7 ∷ 8 ∷ 9 ∷ 10 ∷ 11 ∷ 12 ∷ []) (13 ∷ 14 ∷ []) (blindFlangeCauses s) tt
+      let rest = boltingOrder ++ 13 ∷ 14 ∷ [] in
+      in-turn (2 ∷ 3 ∷ 4 ∷ 5 ∷ 6 ∷ 7 ∷ 8 ∷ 9 ∷ []) rest (blindFlangeCauses s) tt
+      ∙ ap (λ (k : ℕ). cond (eqb limit 0) k limit) (in-turn boltingOrder (13 ∷ 14 ∷ []) (blindFlangeCauses s) tt)
 
-  pub flange-refused :
-      {cause : ℕ} → cause ≡ blindFlangeLimit s → cause ≢ 0 → Refused cause ≡ blindFlangeSizing s
+  pub flange-refused : {cause : ℕ} → cause ≡ limit → cause ≢ 0 → Refused cause ≡ blindFlangeSizing s
   unfolding blindFlangeSizing
   flange-refused {cause} e h =
       let k : cause ≡ firstCause (blindFlangeCauses s) = rw (first, ← e, ne-eqb cause 0 h) in
       rw (← k) (refused _ _ h)
 
-  pub flange-overloaded :
-      0 ≡ blindFlangeLimit s → overloaded ≡ true → Refused 13 ≡ blindFlangeSizing s
-  unfolding blindFlangeSizing
-  flange-overloaded e h =
-      let k : 13 ≡ firstCause (blindFlangeCauses s) = rw (first, ← e, h) in
-      rw (← k)
+  module _ (e : 0 ≡ limit) where
+    pub bolting-refused : {cause : ℕ} → cause ≡ bolting → cause ≢ 0 → Refused cause ≡ blindFlangeSizing s
+    unfolding blindFlangeSizing
+    bolting-refused {cause} e' h =
+        let k : cause ≡ firstCause (blindFlangeCauses s) = rw (first, ← e, ← e', ne-eqb cause 0 h) in
+        rw (← k) (refused _ _ h)
 
-  no-cause :
-      blindFlangeLimit s ≡ 0 → overloaded ≡ false → 0 ≡ firstCause (blindFlangeCauses s)
-  no-cause e h = rw (first, e, h)
+    pub flange-overloaded : 0 ≡ bolting → overloaded ≡ true → Refused 13 ≡ blindFlangeSizing s
+    unfolding blindFlangeSizing
+    flange-overloaded e' h =
+        let k : 13 ≡ firstCause (blindFlangeCauses s) = rw (first, ← e, ← e', h) in
+        rw (← k)
+
+    pub no-cause : 0 ≡ bolting → overloaded ≡ false → firstCause (blindFlangeCauses s) ≡ 0
+    no-cause e' h = rw (first, ← e, ← e', h)
 
   pub flange-sized :
       {f : BlindFlangeFigures} →
-      0 ≡ blindFlangeLimit s →
-      overloaded ≡ false →
+      firstCause (blindFlangeCauses s) ≡ 0 →
       f ≡ blindFlangeFigures s →
       BlindFlange f ≡ blindFlangeSizing s
   unfolding blindFlangeSizing
-  flange-sized e h q = rw (q, ← no-cause (sym e) h)
-
-  -- where no cause before 14 applies, no limit is passed
-  pub within : firstCause (blindFlangeCauses s) ≡ 0 → blindFlangeLimit s ≡ 0
-  within e = by-test (eqb (blindFlangeLimit s) 0) refl (rw first at e)
-    where
-      by-test :
-          (b : Bool) →
-          eqb (blindFlangeLimit s) 0 ≡ b →
-          cond b (cond (overloaded) 13 0) (blindFlangeLimit s) ≡ 0 →
-          blindFlangeLimit s ≡ 0
-      by-test true t z = eqb-true _ _ t
-      by-test false t z = z
+  flange-sized e q = rw (q, e)

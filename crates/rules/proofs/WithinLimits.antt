@@ -2,7 +2,7 @@
 -- stand in Causes alone. Assumes nothing.
 use mathlib.Core.Path.{_≡_}
 use mathlib.Core.Logic.{_≢_}
-use mathlib.Core.List.{[], _∷_}
+use mathlib.Core.List.{[], _∷_, _++_}
 use Prim.Native.Nat.{ℕ, _*_, _^_, _≤_}
 use native.Mathlib.Nat.{mul-le-mul}
 use native.Mathlib.Omega.{arith}
@@ -11,11 +11,12 @@ use Rattle.tables.specs.DesignStress.{designStress}
 use Rattle.rules.specs.Endplate.{endplateStress}
 use Rattle.rules.specs.Gasket.{effectiveWidth, reactionDiameter}
 use Rattle.rules.specs.Bolts.{boltArea}
-use Rattle.rules.specs.Causes.{firstCause, checkingOrder, endplateCauses}
-use Rattle.rules.specs.Causes.{flangeLimits, boltsCauses, blindFlangeCauses, blindFlangeLimit}
+use Rattle.rules.specs.Causes.{firstOf, firstCause, checkingOrder, boltingOrder}
+use Rattle.rules.specs.Causes.{endplateCauses, flangeLimits, boltsCauses, blindFlangeCauses}
+use Rattle.rules.specs.Loads.{gasketOf}
 use Rattle.rules.specs.declared.EndplateSheet.{EndplateSheet}
 use Rattle.rules.specs.declared.BlindFlangeSheet.{BlindFlangeSheet}
-use Rattle.rules.proofs.CheckingOrder.{limit}
+use Rattle.rules.proofs.CheckingOrder.{limit, none-of-both}
 use Rattle.rules.proofs.Bounds.{effectiveWidth-most}
 
 pub record EndplateWithin (s : EndplateSheet) : Type 0 where
@@ -35,7 +36,8 @@ endplate-within s e =
       allowance = let h = n 7 tt 0 in omega (arith, ltb-false);
     }
 
-pub record BlindFlangeWithin (s : BlindFlangeSheet) : Type 0 where
+-- 2 to 9
+pub record FlangeWithin (s : BlindFlangeSheet) : Type 0 where
   pub pressure : s .pressure ≤ 2 ^ 11
   pub stressed : designStress (s .material) (s .temperature) ≢ 0
   pub od : s .od ≤ 2 ^ 15
@@ -44,6 +46,24 @@ pub record BlindFlangeWithin (s : BlindFlangeSheet) : Type 0 where
   pub width : effectiveWidth (s .width) ≤ 2 ^ 11
   pub m : s .m ≤ 2 ^ 11
   pub y : s .y ≤ 2 ^ 11
+
+pub flange-within : (s : BlindFlangeSheet) → firstCause (flangeLimits s) ≡ 0 → FlangeWithin s
+unfolding flangeLimits
+flange-within s e =
+    let n = limit checkingOrder (flangeLimits s) tt e in
+    record {
+      pressure = let h = n 3 tt 1 in omega (arith, ltb-false);
+      stressed = eqb-false _ _ (n 5 tt 0);
+      od = let h = n 6 tt 1 in omega (arith, ltb-false);
+      od-least = let h = n 6 tt 0 in omega (arith, ltb-false);
+      allowance = let h = n 7 tt 0 in omega (arith, ltb-false);
+      width = omega (arith, effectiveWidth-most (s .width) (let h = n 8 tt 1 in omega (arith, ltb-false)));
+      m = let h = n 9 tt 0 in omega (arith, ltb-false);
+      y = let h = n 9 tt 1 in omega (arith, ltb-false);
+    }
+
+-- 10 to 12
+pub record BoltingWithin (s : BlindFlangeSheet) : Type 0 where
   pub area : boltArea (s .root) (s .count) ≤ 2 ^ 24
   pub sa : s .sa ≤ 2 ^ 9
   pub sb : s .sb ≤ 2 ^ 9
@@ -58,19 +78,11 @@ area-most bolt root count hb hr hc =
     let root-most : root ≤ 128614 = omega (arith, mul-le-mul hb hb) in
     omega (arith, mul-le-mul hc root-most)
 
-pub blind-flange-within : (s : BlindFlangeSheet) → blindFlangeLimit s ≡ 0 → BlindFlangeWithin s
-unfolding flangeLimits boltsCauses blindFlangeCauses
-blind-flange-within s e =
-    let n = limit (2 ∷ 3 ∷ 4 ∷ 5 ∷ 6 ∷ 7 ∷ 8 ∷ 9 ∷ 10 ∷ 11 ∷ 12 ∷ []) (blindFlangeCauses s) tt e in
+pub bolting-within : (s : BlindFlangeSheet) → firstOf boltingOrder (blindFlangeCauses s) ≡ 0 → BoltingWithin s
+unfolding flangeLimits boltsCauses blindFlangeCauses gasketOf
+bolting-within s e =
+    let n = limit boltingOrder (blindFlangeCauses s) tt e in
     record {
-      pressure = let h = n 3 tt 1 in omega (arith, ltb-false);
-      stressed = eqb-false _ _ (n 5 tt 0);
-      od = let h = n 6 tt 1 in omega (arith, ltb-false);
-      od-least = let h = n 6 tt 0 in omega (arith, ltb-false);
-      allowance = let h = n 7 tt 0 in omega (arith, ltb-false);
-      width = omega (arith, effectiveWidth-most (s .width) (let h = n 8 tt 1 in omega (arith, ltb-false)));
-      m = let h = n 9 tt 0 in omega (arith, ltb-false);
-      y = let h = n 9 tt 1 in omega (arith, ltb-false);
       area =
           let bolt = n 10 tt 1 in
           let root = n 10 tt 3 in
@@ -84,3 +96,11 @@ blind-flange-within s e =
       circle-least = let h = n 12 tt 0 in omega (arith, ltb-false);
       circle-most = let h = n 12 tt 1 in omega (arith, ltb-false);
     }
+
+-- both, where none at all applies
+pub both-within : (s : BlindFlangeSheet) → firstCause (blindFlangeCauses s) ≡ 0 → FlangeWithin s × BoltingWithin s
+unfolding firstOf flangeLimits boltsCauses blindFlangeCauses
+both-within s e =
+    let rest = boltingOrder ++ 13 ∷ 14 ∷ [] in
+    let p = none-of-both (2 ∷ 3 ∷ 4 ∷ 5 ∷ 6 ∷ 7 ∷ 8 ∷ 9 ∷ []) rest (blindFlangeCauses s) tt e in
+    (flange-within s (p .0), bolting-within s (none-of-both boltingOrder (13 ∷ 14 ∷ []) (blindFlangeCauses s) tt (p .1) .0))

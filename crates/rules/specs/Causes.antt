@@ -6,11 +6,11 @@ use mathlib.Core.List.{List, [], _∷_, _++_, foldl}
 use lib.Dec.{ltb, eqb}
 use Rattle.tables.specs.DesignStress.{designStress}
 use Rattle.rules.specs.Endplate.{formA, endplateStress}
-use Rattle.rules.specs.Gasket.{reactionDiameter}
+use Rattle.rules.specs.Loads.{gasketOf}
 use Rattle.rules.specs.Bolts.{boltsSufficient, boltArea}
-use Rattle.rules.specs.Figures.{blindFlangeFigures}
 use Rattle.rules.specs.declared.EndplateSheet.{EndplateSheet}
 use Rattle.rules.specs.declared.BlindFlangeSheet.{BlindFlangeSheet}
+use Rattle.rules.specs.declared.gasket.Gasket.{Gasket}
 
 -- ---- the tests of each cause, over the values that it is about; a cause applies where any of its tests holds
 
@@ -81,9 +81,10 @@ boltStressRefused sa sb = eqb sa 0 ∷ ltb 400 sa ∷ eqb sb 0 ∷ ltb 400 sb �
 abbrev pub circleRefused : ℕ → ℕ → ℕ → ℕ → Tests
 circleRefused C od bolt G = ltb C (od + 10 * bolt) ∷ ltb (3 * G) (2 * C) ∷ []
 
--- 13: the bolts do not carry
-abbrev pub boltsOverloaded : ℕ → ℕ → ℕ → ℕ → ℕ → Tests
-boltsOverloaded Wm1 Wm2 A sa sb = not (boltsSufficient Wm1 Wm2 A sa sb) ∷ []
+-- 13: the bolts, of area A, do not carry the gasket's loads
+abbrev pub boltsOverloaded : Gasket → ℕ → ℕ → ℕ → Tests
+boltsOverloaded gasket A sa sb =
+    not (boltsSufficient (gasket .«operating_load») (gasket .«seating_load») A sa sb) ∷ []
 
 -- ---- causes, each a number and its tests
 
@@ -121,7 +122,7 @@ endplateCauses s =
 
 -- ---- of a blind flange
 
--- 2 to 9: all but what is about its bolts
+-- 2 to 9: the limits within which its gasket and the loads are worked
 unfoldable pub flangeLimits : BlindFlangeSheet → Causes
 flangeLimits s =
     (2, materialRefused (s .material))
@@ -134,20 +135,19 @@ flangeLimits s =
     ∷ (9, gasketRefused (s .m) (s .y))
     ∷ []
 
--- the bolts' own, for any diameter, root area and count of bolts on this flange
+-- 10, 12 and 13: the bolts' own, of any diameter, root area and count on this flange
 unfoldable pub boltsCauses : BlindFlangeSheet → ℕ → ℕ → ℕ → Causes
 boltsCauses s bolt root count =
-    let f = blindFlangeFigures s in
+    let gasket = gasketOf s in
     (10, boltsRefused bolt root count)
-    ∷ (12, circleRefused (s .circle) (s .od) bolt (reactionDiameter (s .od) (s .width)))
-    ∷ (13, boltsOverloaded (f .«operating_load») (f .«seating_load») (boltArea root count) (s .sa) (s .sb))
+    ∷ (12, circleRefused (s .circle) (s .od) bolt (gasket .«reaction_diameter»))
+    ∷ (13, boltsOverloaded gasket (boltArea root count) (s .sa) (s .sb))
     ∷ []
 
 unfoldable pub blindFlangeCauses : BlindFlangeSheet → Causes
 blindFlangeCauses s =
     flangeLimits s ++ (11, boltStressRefused (s .sa) (s .sb)) ∷ boltsCauses s (s .bolt) (s .root) (s .count)
 
--- the first of those that are judged before the loads are
-abbrev pub blindFlangeLimit : BlindFlangeSheet → ℕ
-blindFlangeLimit s =
-    firstOf (2 ∷ 3 ∷ 4 ∷ 5 ∷ 6 ∷ 7 ∷ 8 ∷ 9 ∷ 10 ∷ 11 ∷ 12 ∷ []) (blindFlangeCauses s)
+-- judged of the bolts and their circle once the gasket is worked, before the loads are
+abbrev pub boltingOrder : List ℕ
+boltingOrder = 10 ∷ 11 ∷ 12 ∷ []

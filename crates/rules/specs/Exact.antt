@@ -4,8 +4,8 @@ use mathlib.Core.Path.{_≡_}
 use Rattle.tables.specs.DesignStress.{designStress}
 use Rattle.root.specs.Least.{_≥_, Least}
 use Rattle.rules.specs.Endplate.{endplateStress, formFactor}
-use Rattle.rules.specs.Gasket.{effectiveWidth, reactionDiameter}
-use Rattle.rules.specs.Loads.{exactOperatingLoad, exactSeatingLoad, exactFlangeLoad}
+use Rattle.rules.specs.Gasket.{reactionDiameter}
+use Rattle.rules.specs.Loads.{exactFlangeLoad, exactOperatingLoadOf, exactSeatingLoadOf}
 use Rattle.rules.specs.Bolts.{boltArea}
 use Rattle.rules.specs.Figures.{ambient}
 use Rattle.rules.specs.Answer.{Accepted}
@@ -53,14 +53,7 @@ EndplateSized s (Refused cause figure) = ⊥
 abbrev pub EndplateExact : EndplateSheet → Answer → Type 0
 EndplateExact s answer = Accepted answer → EndplateSized s answer
 
--- the exact loads of a sheet: V1, V2 and V
-abbrev pub exactOperatingLoadOf : BlindFlangeSheet → ℕ
-exactOperatingLoadOf s =
-    exactOperatingLoad (reactionDiameter (s .od) (s .width)) (effectiveWidth (s .width)) (s .m) (s .pressure)
-
-abbrev pub exactSeatingLoadOf : BlindFlangeSheet → ℕ
-exactSeatingLoadOf s = exactSeatingLoad (reactionDiameter (s .od) (s .width)) (effectiveWidth (s .width)) (s .y)
-
+-- the exact W of a sheet: V
 abbrev pub exactFlangeLoadOf : BlindFlangeSheet → ℕ
 exactFlangeLoadOf s =
     let A = boltArea (s .root) (s .count) in

@@ -2,8 +2,7 @@
 use Prim.Native.Nat.{ℕ, _+_, max}
 use Rattle.tables.specs.DesignStress.{designStress}
 use Rattle.rules.specs.Endplate.{endplateStress, endplateThickness}
-use Rattle.rules.specs.Gasket.{effectiveWidth, reactionDiameter}
-use Rattle.rules.specs.Loads.{exactOperatingLoad, exactSeatingLoad, operatingLoad, seatingLoad, flangeLoad}
+use Rattle.rules.specs.Loads.{flangeLoad, gasketOf}
 use Rattle.rules.specs.Bolts.{boltArea}
 use Rattle.rules.specs.BlindFlange.{flangeThickness, edgeThickness}
 use Rattle.rules.specs.declared.EndplateSheet.{EndplateSheet}
@@ -31,12 +30,12 @@ unfoldable pub blindFlangeFigures : BlindFlangeSheet → BlindFlangeFigures
 blindFlangeFigures s =
     let S = designStress (s .material) (s .temperature) in
     let S0 = designStress (s .material) ambient in
-    let b = effectiveWidth (s .width) in
-    let G = reactionDiameter (s .od) (s .width) in
+    let gasket = gasketOf s in
+    let G = gasket .«reaction_diameter» in
+    let Wm1 = gasket .«operating_load» in
+    let Wm2 = gasket .«seating_load» in
     let C = s .circle in
     let A = boltArea (s .root) (s .count) in
-    let Wm1 = operatingLoad (exactOperatingLoad G b (s .m) (s .pressure)) in
-    let Wm2 = seatingLoad (exactSeatingLoad G b (s .y)) in
     let W = flangeLoad Wm1 Wm2 A (s .sa) (s .sb) in
     let e = flangeThickness S G (s .pressure) C Wm1 in
     let edge = edgeThickness S S0 G C Wm1 W in
@@ -44,7 +43,7 @@ blindFlangeFigures s =
       «design_stress» = S;
       «ambient_stress» = S0;
       «reaction_diameter» = G;
-      «effective_width» = b;
+      «effective_width» = gasket .«effective_width»;
       «operating_load» = Wm1;
       «seating_load» = Wm2;
       «flange_load» = W;

@@ -4,8 +4,8 @@ pub mod Gasket
 pub mod Loads
 pub mod Bolts
 pub mod BlindFlange
-pub mod Figures
 pub mod Causes
+pub mod Figures
 pub mod Answer
 pub mod Numbers
 pub mod Exact

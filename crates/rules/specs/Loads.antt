@@ -5,6 +5,9 @@ use native.Mathlib.Omega.{arith}
 use Rattle.root.specs.Least.{_≥_, Least}
 use Rattle.root.specs.Root.{ceilDiv}
 use Rattle.root.specs.Laws.{ceilDiv-least}
+use Rattle.rules.specs.Gasket.{effectiveWidth, reactionDiameter}
+use Rattle.rules.specs.declared.BlindFlangeSheet.{BlindFlangeSheet}
+use Rattle.rules.specs.declared.gasket.Gasket.{Gasket}
 
 -- ---- exact: fractions multiplied out to whole numbers
 
@@ -55,3 +58,23 @@ pub flangeLoad-least :
     (flangeLoad Wm1 Wm2 A sa sb)
 unfolding flangeLoad
 flangeLoad-least Wm1 Wm2 A sa sb some = ceilDiv-least _ (20 * sb) (omega arith)
+
+-- ---- of a sheet
+
+-- V1 and V2
+abbrev pub exactOperatingLoadOf : BlindFlangeSheet → ℕ
+exactOperatingLoadOf s =
+    exactOperatingLoad (reactionDiameter (s .od) (s .width)) (effectiveWidth (s .width)) (s .m) (s .pressure)
+
+abbrev pub exactSeatingLoadOf : BlindFlangeSheet → ℕ
+exactSeatingLoadOf s = exactSeatingLoad (reactionDiameter (s .od) (s .width)) (effectiveWidth (s .width)) (s .y)
+
+-- the gasket and its loads as one value: G, b, Wm1, Wm2
+unfoldable pub gasketOf : BlindFlangeSheet → Gasket
+gasketOf s =
+    record {
+      «reaction_diameter» = reactionDiameter (s .od) (s .width);
+      «effective_width» = effectiveWidth (s .width);
+      «operating_load» = operatingLoad (exactOperatingLoadOf s);
+      «seating_load» = seatingLoad (exactSeatingLoadOf s);
+    }

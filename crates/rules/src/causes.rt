@@ -4,15 +4,17 @@
 use crate::BlindFlangeSheet;
 use crate::EndplateSheet;
 use crate::FORM_A;
-use crate::gasket::reaction_diameter;
+use crate::gasket::Gasket;
 use crate::stress::endplate_stress;
 ghost use mathlib.Core.Path.{_≡_};
 ghost use mathlib.Core.Bool.{cond};
 ghost use lib.Dec.{eqb};
-ghost use Rattle.rules.specs.Causes.{any, firstCause, endplateCauses, blindFlangeLimit};
+ghost use Rattle.rules.specs.Causes.{any, firstOf, firstCause};
+ghost use Rattle.rules.specs.Causes.{endplateCauses, flangeLimits, blindFlangeCauses, boltingOrder};
 ghost use Rattle.rules.specs.Causes.{materialRefused, shellRefused, formRefused, pressureRefused};
 ghost use Rattle.rules.specs.Causes.{temperatureRefused, noStress, diameterRefused, allowanceRefused};
 ghost use Rattle.rules.specs.Causes.{widthRefused, gasketRefused, boltsRefused, boltStressRefused, circleRefused};
+ghost use Rattle.rules.specs.Loads.{gasketOf};
 
 const MATERIAL: u32 = 2;
 
@@ -159,12 +161,11 @@ pub(crate) fn endplate_cause(s: EndplateSheet) -> u32
     or_cause(k, ALLOWANCE, allowance)
 }
 
-// The first of the causes 2 to 12 that applies to a blind flange, in checking order; 0 where none does.
-pub(crate) fn blind_flange_limits(s: BlindFlangeSheet) -> u32
-    ensures { λ r. ⌜ r ≡ blindFlangeLimit s ⌝ }
+// The first of the causes 2 to 9 that applies to a blind flange, in checking order; 0 where none does.
+pub(crate) fn flange_limits(s: BlindFlangeSheet) -> u32
+    ensures { λ r. ⌜ r ≡ firstCause (flangeLimits s) ⌝ }
 {
     let stress = tables::design_stress(s.material, s.temperature);
-    let g = reaction_diameter(s.od, s.width);
     let material = material_refused(s.material);
     let pressure = pressure_refused(s.pressure);
     let temperature = temperature_refused(s.temperature);
@@ -173,9 +174,6 @@ pub(crate) fn blind_flange_limits(s: BlindFlangeSheet) -> u32
     let allowance = allowance_refused(s.allowance);
     let width = width_refused(s.od, s.width);
     let gasket = gasket_refused(s.m, s.y);
-    let bolts = bolts_refused(s.bolt, s.root, s.count);
-    let bolt_stress = bolt_stress_refused(s.sa, s.sb);
-    let circle = circle_refused(s.circle, s.od, s.bolt, g);
     let k = or_cause(0, MATERIAL, material);
     let k = or_cause(k, PRESSURE, pressure);
     let k = or_cause(k, TEMPERATURE, temperature);
@@ -183,8 +181,18 @@ pub(crate) fn blind_flange_limits(s: BlindFlangeSheet) -> u32
     let k = or_cause(k, DIAMETER, diameter);
     let k = or_cause(k, ALLOWANCE, allowance);
     let k = or_cause(k, WIDTH, width);
-    let k = or_cause(k, GASKET, gasket);
-    let k = or_cause(k, BOLTS, bolts);
+    or_cause(k, GASKET, gasket)
+}
+
+// The first of the causes 10 to 12, once the gasket is worked.
+pub(crate) fn bolting_limits(s: BlindFlangeSheet, gasket: Gasket) -> u32
+    requires { ⌜ gasket ≡ gasketOf s ⌝ }
+    ensures { λ r. ⌜ r ≡ firstOf boltingOrder (blindFlangeCauses s) ⌝ }
+{
+    let bolts = bolts_refused(s.bolt, s.root, s.count);
+    let bolt_stress = bolt_stress_refused(s.sa, s.sb);
+    let circle = circle_refused(s.circle, s.od, s.bolt, gasket.reaction_diameter);
+    let k = or_cause(0, BOLTS, bolts);
     let k = or_cause(k, BOLT_STRESS, bolt_stress);
     or_cause(k, CIRCLE, circle)
 }

@@ -1,22 +1,20 @@
-// The figures of a report, from the numbers of a sheet. They are asked for where no limit is passed.
+// The figures of a report, from the numbers of a sheet. They are asked for where no cause before 14 applies.
 use crate::BlindFlangeFigures;
 use crate::BlindFlangeSheet;
 use crate::EndplateFigures;
 use crate::EndplateSheet;
 use crate::bolts::bolt_area;
 use crate::compare::greater;
-use crate::gasket::effective_width;
-use crate::gasket::reaction_diameter;
+use crate::gasket::Gasket;
 use crate::loads::flange_load;
-use crate::loads::operating_load;
-use crate::loads::seating_load;
 use crate::stress::endplate_stress;
 use crate::thickness::edge_thickness;
 use crate::thickness::endplate_thickness;
 use crate::thickness::flange_thickness;
 ghost use mathlib.Core.Path.{_≡_};
-ghost use Rattle.rules.specs.Causes.{firstCause, endplateCauses, blindFlangeLimit};
+ghost use Rattle.rules.specs.Causes.{firstCause, endplateCauses, blindFlangeCauses};
 ghost use Rattle.rules.specs.Figures.{endplateFigures, blindFlangeFigures};
+ghost use Rattle.rules.specs.Loads.{gasketOf};
 
 // The column of the stress cold, °C.
 const AMBIENT: u32 = 50;
@@ -34,16 +32,15 @@ pub(crate) fn endplate_figures(s: EndplateSheet) -> EndplateFigures
     }
 }
 
-pub(crate) fn blind_flange_figures(s: BlindFlangeSheet) -> BlindFlangeFigures
-    requires { ⌜ blindFlangeLimit s ≡ 0 ⌝ }
+pub(crate) fn blind_flange_figures(s: BlindFlangeSheet, gasket: Gasket) -> BlindFlangeFigures
+    requires { ⌜ (firstCause (blindFlangeCauses s) ≡ 0) × (gasket ≡ gasketOf s) ⌝ }
     ensures { λ r. ⌜ r ≡ blindFlangeFigures s ⌝ }
 {
     let stress = tables::design_stress(s.material, s.temperature);
     let ambient = tables::design_stress(s.material, AMBIENT);
-    let g = reaction_diameter(s.od, s.width);
-    let b = effective_width(s.width);
-    let operating = operating_load(g, b, s.m, s.pressure);
-    let seating = seating_load(g, b, s.y);
+    let g = gasket.reaction_diameter;
+    let operating = gasket.operating_load;
+    let seating = gasket.seating_load;
     let area = bolt_area(s.root, s.count);
     let flange = flange_load(operating, seating, area, s.sa, s.sb);
     let thickness = flange_thickness(stress, g, s.pressure, s.circle, operating);
@@ -52,7 +49,7 @@ pub(crate) fn blind_flange_figures(s: BlindFlangeSheet) -> BlindFlangeFigures
         design_stress: stress as u64,
         ambient_stress: ambient as u64,
         reaction_diameter: g as u64,
-        effective_width: b,
+        effective_width: gasket.effective_width,
         operating_load: operating,
         seating_load: seating,
         flange_load: flange,

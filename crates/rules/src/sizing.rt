@@ -9,6 +9,7 @@ use crate::causes;
 use crate::causes::BOLTS_OVERLOADED;
 use crate::causes::NO_PLATE;
 use crate::figures;
+use crate::gasket;
 use plates::Choice;
 ghost use mathlib.Core.Path.{_≡_};
 ghost use Rattle.rules.specs.Answer.{endplateSizing, blindFlangeSizing, totalOf, withPlate};
@@ -30,22 +31,27 @@ pub(crate) fn endplate_sizing(s: EndplateSheet) -> Sizing
     Sizing::Endplate(figures::endplate_figures(s))
 }
 
+// Cause after cause, and the thicknesses last: the gasket is worked once none of 2 to 9 applies.
 pub(crate) fn blind_flange_sizing(s: BlindFlangeSheet) -> Sizing
     ensures { λ r. ⌜ r ≡ blindFlangeSizing s ⌝ }
 {
-    let cause = causes::blind_flange_limits(s);
-    if cause != 0 {
-        return Sizing::Refused(cause);
+    let limit = causes::flange_limits(s);
+    if limit != 0 {
+        return Sizing::Refused(limit);
     }
-    let figures = figures::blind_flange_figures(s);
+    let gasket = gasket::gasket_of(s);
+    let bolting = causes::bolting_limits(s, gasket);
+    if bolting != 0 {
+        return Sizing::Refused(bolting);
+    }
     let area = bolts::bolt_area(s.root, s.count);
-    let operating = figures.operating_load;
-    let seating = figures.seating_load;
+    let operating = gasket.operating_load;
+    let seating = gasket.seating_load;
     let sufficient = bolts::bolts_sufficient(operating, seating, area, s.sa, s.sb);
     if !sufficient {
         return Sizing::Refused(BOLTS_OVERLOADED);
     }
-    Sizing::BlindFlange(figures)
+    Sizing::BlindFlange(figures::blind_flange_figures(s, gasket))
 }
 
 // total, in hundredths of a mm; 0 for a part that is refused.

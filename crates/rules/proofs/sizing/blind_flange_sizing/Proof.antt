@@ -3,48 +3,69 @@ use mathlib.Core.Path.{_≡_, sym, _∙_}
 use mathlib.Core.Bool.{not}
 use native.Mathlib.Omega.{arith}
 use borrow.Author.Needs.{needs}
-use Rattle.rules.specs.Causes.{flangeLimits, boltsCauses, blindFlangeCauses, blindFlangeLimit}
-use Rattle.rules.proofs.WithinLimits.{blind-flange-within}
-use Rattle.rules.proofs.FlangeBounds.{figures-operating, figures-seating}
+use Rattle.rules.specs.Causes.{firstOf, firstCause, boltingOrder, flangeLimits, boltsCauses, blindFlangeCauses}
+use Rattle.rules.proofs.WithinLimits.{flange-within, bolting-within}
+use Rattle.rules.proofs.FlangeBounds.{gasket-most}
 use Rattle.rules.proofs.Sizings as sizings
 use Rattle.rules.proofs.sizing.blind_flange_sizing.Statement.{statement}
 use Rattle.rules.proofs.sizing.blind_flange_sizing.Tie as tie
 
 returns : tie.Need-returns
-returns c = sizings.flange-refused _ (c .before .blind-flange-limits .ensures) (c .if1 .taken)
+returns c = sizings.flange-refused _ (c .before .flange-limits .ensures) (c .if1 .taken)
 
--- no limit is passed
-within :
-    (c : tie.After-blind-flange-figures) →
-    0 ≡ blindFlangeLimit (c .before .before .before .args .s)
-within c = sym (c .before .if1 .left) ∙ c .before .before .blind-flange-limits .ensures
-
-bolts-sufficient-requires : tie.Need-bolts-sufficient-requires
-bolts-sufficient-requires c κs =
-    let f = c .before in
-    let s = f .before .before .before .args .s in
-    let a = blind-flange-within s (sym (within f)) in
-    rw (f .blind-flange-figures .ensures, c .bolt-area .ensures)
-    (figures-operating s a, figures-seating s a, a .area, omega arith, omega arith)
-
--- the bolt check is the definition's
-overloaded :
-    (c : tie.After-bolts-sufficient) →
-    sizings.overloaded (c .before .before .before .before .before .args .s) ≡ not (c .bolts-sufficient .result)
-unfolding flangeLimits boltsCauses blindFlangeCauses
-overloaded c =
-    rw (c .bolts-sufficient .ensures, c .before .bolt-area .ensures, c .before .before .blind-flange-figures .ensures)
+-- none of 2 to 9 applies
+limits : (c : tie.Else1) → 0 ≡ firstCause (flangeLimits (c .before .before .args .s))
+limits c = sym (c .if1 .left) ∙ c .before .flange-limits .ensures
 
 returns-2 : tie.Need-returns-2
 returns-2 c =
     let b = c .before in
-    sizings.flange-overloaded _ (within (b .before .before)) (overloaded b ∙ c .if2 .taken)
+    sizings.bolting-refused _ (limits (b .before .before)) (b .bolting-limits .ensures) (c .if2 .taken)
+
+-- nor of 10 to 12
+bolting :
+    (c : tie.Else2) →
+    0 ≡ firstOf boltingOrder (blindFlangeCauses (c .before .before .before .before .before .args .s))
+bolting c = sym (c .if2 .left) ∙ c .before .bolting-limits .ensures
+
+bolts-sufficient-requires : tie.Need-bolts-sufficient-requires
+bolts-sufficient-requires c κs =
+    let b = c .before in
+    let g = b .before .before in
+    let s = g .before .before .before .args .s in
+    let a = bolting-within s (sym (bolting b)) in
+    let most = gasket-most s (flange-within s (sym (limits (g .before)))) (g .gasket-of .ensures) in
+    rw (c .bolt-area .ensures) (most .operating, most .seating, a .area, omega arith, omega arith)
+
+-- the bolt check is the definition's
+overloaded :
+    (c : tie.After-bolts-sufficient) →
+    sizings.overloaded (c .before .before .before .before .before .before .before .args .s)
+    ≡ not (c .bolts-sufficient .result)
+unfolding flangeLimits boltsCauses blindFlangeCauses
+overloaded c =
+    rw (c .bolts-sufficient .ensures, c .before .bolt-area .ensures, c .before .before .before .before .gasket-of .ensures)
 
 returns-3 : tie.Need-returns-3
 returns-3 c =
     let b = c .before in
-    let f = b .before .before in
-    sizings.flange-sized _ (within f) (overloaded b ∙ c .if2 .left) (f .blind-flange-figures .ensures)
+    let e = b .before .before in
+    sizings.flange-overloaded _ (limits (e .before .before .before)) (bolting e) (overloaded b ∙ c .if3 .taken)
+
+-- nor 13
+none :
+    (c : tie.Else3) →
+    firstCause (blindFlangeCauses (c .before .before .before .before .before .before .before .before .args .s)) ≡ 0
+none c =
+    let b = c .before in
+    let e = b .before .before in
+    sizings.no-cause _ (limits (e .before .before .before)) (bolting e) (overloaded b ∙ c .if3 .left)
+
+figures-requires : tie.Need-blind-flange-figures-requires
+figures-requires c κs = (none c, c .before .before .before .before .before .gasket-of .ensures)
+
+returns-4 : tie.Need-returns-4
+returns-4 c = sizings.flange-sized _ (none (c .before)) (c .blind-flange-figures .ensures)
 
 pub blind-flange-sizing-spec : {M : Type 1} → statement M
 blind-flange-sizing-spec =
@@ -54,6 +75,9 @@ blind-flange-sizing-spec =
     returns
     (λ c κs. search needs)
     (λ c κs. search needs)
-    bolts-sufficient-requires
     returns-2
-    returns-3)
+    (λ c κs. search needs)
+    bolts-sufficient-requires
+    returns-3
+    figures-requires
+    returns-4)

@@ -1,0 +1,61 @@
+-- `causes::flange_limits` meets its contract: cause by cause in checking order. Assumes nothing.
+use mathlib.Core.List.{[], _∷_}
+use mathlib.Core.Path.{refl, _∙_}
+use borrow.Author.Needs.{needs}
+use Rattle.rules.specs.Causes.{firstOf, noStress, flangeLimits}
+use Rattle.rules.proofs.CheckingOrder.{in-order, next-cause, via}
+use Rattle.rules.proofs.causes.flange_limits.Statement.{statement}
+use Rattle.rules.proofs.causes.flange_limits.Tie as tie
+
+returns : tie.Need-returns
+unfolding firstOf flangeLimits
+returns c =
+    let r7 = c .before in
+    let r6 = r7 .before in
+    let r5 = r6 .before in
+    let r4 = r5 .before in
+    let r3 = r4 .before in
+    let r2 = r3 .before in
+    let r1 = r2 .before in
+    let gasket = r1 .before in
+    let width = gasket .before in
+    let allowance = width .before in
+    let diameter = allowance .before in
+    let unstressed = diameter .before in
+    let temperature = unstressed .before in
+    let pressure = temperature .before in
+    let material = pressure .before in
+    let stress = material .before in
+    let k1 = next-cause 2 {before = 0} (r1 .or-cause .ensures) refl (material .material-refused .ensures) in
+    let k2 = next-cause 3 (r2 .or-cause2 .ensures) k1 (pressure .pressure-refused .ensures) in
+    let k3 = next-cause 4 (r3 .or-cause3 .ensures) k2 (temperature .temperature-refused .ensures) in
+    let stressed = via noStress (unstressed .no-stress .ensures) (stress .design-stress .ensures) in
+    let k4 = next-cause 5 (r4 .or-cause4 .ensures) k3 stressed in
+    let k5 = next-cause 6 (r5 .or-cause5 .ensures) k4 (diameter .diameter-refused .ensures) in
+    let k6 = next-cause 7 (r6 .or-cause6 .ensures) k5 (allowance .allowance-refused .ensures) in
+    let k7 = next-cause 8 (r7 .or-cause7 .ensures) k6 (width .width-refused .ensures) in
+    let k8 = next-cause 9 (c .or-cause8 .ensures) k7 (gasket .gasket-refused .ensures) in
+    k8 ∙ in-order (2 ∷ 3 ∷ 4 ∷ 5 ∷ 6 ∷ 7 ∷ 8 ∷ 9 ∷ []) (flangeLimits (stress .before .args .s)) tt
+
+pub flange-limits-spec : {M : Type 1} → statement M
+flange-limits-spec =
+    tie.close
+    (tie.spec
+    (λ c κs. search needs)
+    (λ c κs. search needs)
+    (λ c κs. search needs)
+    (λ c κs. search needs)
+    (λ c κs. search needs)
+    (λ c κs. search needs)
+    (λ c κs. search needs)
+    (λ c κs. search needs)
+    (λ c κs. search needs)
+    (λ c κs. search needs)
+    (λ c κs. search needs)
+    (λ c κs. search needs)
+    (λ c κs. search needs)
+    (λ c κs. search needs)
+    (λ c κs. search needs)
+    (λ c κs. search needs)
+    (λ c κs. search needs)
+    returns)
