@@ -13,7 +13,7 @@ use Rattle.rules.specs.Answer.{Accepted}
 use Rattle.rules.specs.declared.EndplateSheet.{EndplateSheet}
 use Rattle.text.specs.Line.{before, after, valueOf}
 use Rattle.text.specs.Number.{numberOf}
-use Rattle.text.specs.Plates.{numbersOf, platesOf}
+use Rattle.text.specs.Plates.{numbersListed, platesOf}
 use Rattle.text.specs.Printed.{printed}
 use Rattle.text.specs.declared.number.Number.{Number}
 use Rattle.text.specs.declared.number.Number.the-variants.{Value}
@@ -42,7 +42,7 @@ abbrev Says : List ℕ → ℕ → Type 0
 Says text P = sheetOf text ≡ endplate (endSheet P) (3000 ∷ [])
 
 says : Says (endAt "pressure=1080") 1080 × Says (endAt "pressure=1081") 1081
-unfolding endSheet indexOf indexAfter before after valueOf numberOf numbersOf platesOf lineOf platesLine linesOf partOf sheetOf
+unfolding endSheet indexOf indexAfter before after valueOf numberOf numbersListed platesOf lineOf platesLine linesOf partOf sheetOf
 says = (refl, refl)
 
 module _ (f : Program) (exact : DemandThree f) (space : List ℕ) (room : 43 ≤ length space) where

@@ -20,7 +20,7 @@ use Rattle.rules.specs.Answer.{endplateSizing, blindFlangeSizing, endplateAnswe
 use Rattle.text.specs.Ascii.{ascii, lineFeed}
 use Rattle.text.specs.Line.{before, after, valueOf}
 use Rattle.text.specs.Number.{numberOf}
-use Rattle.text.specs.Plates.{numbersOf, platesOf}
+use Rattle.text.specs.Plates.{numbersListed, platesOf}
 use Rattle.text.specs.Decimal.{decimal, numberLine}
 use Rattle.report.specs.Report.{reportText}
 use Rattle.sheet.specs.Fields.{lineOf}
@@ -144,7 +144,7 @@ unfolding column designStress ceilDiv wholeRootBy leastRoot leastRootOver endpla
     wideWidth effectiveWidth reactionDiameter exactOperatingLoad exactSeatingLoad operatingLoad seatingLoad
     flangeLoad gasketOf boltsSufficient flangeThickness edgeUnder endplateFigures blindFlangeFigures endplateCauses
     firstOf flangeLimits boltsCauses blindFlangeCauses endplateSizing blindFlangeSizing smallestServing endplateAnswer
-    blindFlangeAnswer indexOf indexAfter before after valueOf numberOf numbersOf platesOf decimal numberLine
+    blindFlangeAnswer indexOf indexAfter before after valueOf numberOf numbersListed platesOf decimal numberLine
     reportText lineOf platesLine linesOf partOf sheetOf answerOf
 starred = refl
 

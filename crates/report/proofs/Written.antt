@@ -42,9 +42,9 @@ nothing {d} {at} =
       content = sym (rw (add-zero, take-append-drop));
     }
 
-pub then : {d d' d'' s t : List ℕ} {at r r' : ℕ}
+pub followed-by : {d d' d'' s t : List ℕ} {at r r' : ℕ}
     → Wrote d at s r d' → Wrote d' r t r' d'' → Wrote d at (s ++ t) r' d''
-then {d} {d'} {d''} {s} {t} {at} {r} {r'} v w =
+followed-by {d} {d'} {d''} {s} {t} {at} {r} {r'} v w =
     record {
       place = rw length-append (omega arith);
       content = w .content ∙ rw (v .content, v .place, writtenAt-then d at s t) refl;

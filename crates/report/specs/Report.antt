@@ -27,19 +27,19 @@ keysOf (BlindFlange f plate) =
 keysOf (Refused cause figure) = "refused" ∷ "place" ∷ []
 
 -- and their numbers
-abbrev pub numbersOf : Answer → List ℕ
-numbersOf (Endplate f plate) = reportOf (Endplate f plate)
-numbersOf (BlindFlange f plate) = reportOf (BlindFlange f plate)
-numbersOf (Refused cause figure) = cause ∷ figure ∷ []
+abbrev pub reportNumbers : Answer → List ℕ
+reportNumbers (Endplate f plate) = reportOf (Endplate f plate)
+reportNumbers (BlindFlange f plate) = reportOf (BlindFlange f plate)
+reportNumbers (Refused cause figure) = cause ∷ figure ∷ []
 
 -- a line for each key and its number
-abbrev pub linesOf : List String → List ℕ → List ℕ
-linesOf [] ns = []
-linesOf (key ∷ keys) [] = []
-linesOf (key ∷ keys) (n ∷ ns) = numberLine (ascii key) n ++ linesOf keys ns
+abbrev pub numberLines : List String → List ℕ → List ℕ
+numberLines [] ns = []
+numberLines (key ∷ keys) [] = []
+numberLines (key ∷ keys) (n ∷ ns) = numberLine (ascii key) n ++ numberLines keys ns
 
 unfoldable pub reportText : Answer → List ℕ
-reportText answer = linesOf (keysOf answer) (numbersOf answer)
+reportText answer = numberLines (keysOf answer) (reportNumbers answer)
 
 -- no report is longer: eleven lines, each of a key of at most 7 bytes, =, at most 20 digits and LF
 abbrev pub longest : ℕ

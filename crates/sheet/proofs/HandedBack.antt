@@ -6,7 +6,7 @@ use mathlib.Core.Path.{_≡_, refl}
 use native.Mathlib.Omega.{arith}
 use lib.ListN.{length, take, getD, replicate, length-append}
 use lib.Seq.{take-append-seam}
-use Rattle.sheet.specs.Lines.{Lines, fault, given, held}
+use Rattle.sheet.specs.Lines.{Lines, fault, given, linesHeld}
 use Rattle.sheet.specs.Sheet.{malformed, endplate, blindFlange, endplateSheet, blindFlangeSheet, read}
 
 -- zeros after a list are read like the places past it
@@ -17,22 +17,22 @@ getD-padded [] (suc k) (suc i) = getD-padded [] k i
 getD-padded (x ∷ v) k zero = refl
 getD-padded (x ∷ v) k (suc i) = getD-padded v k i
 
-pub malformed-read : (blind : Bool) (l : Lines) → held l .ok ≡ false → malformed (held l .fault) ≡ read blind l
+pub malformed-read : (blind : Bool) (l : Lines) → linesHeld l .ok ≡ false → malformed (linesHeld l .fault) ≡ read blind l
 malformed-read true (fault k) e = refl
 malformed-read false (fault k) e = refl
 malformed-read blind (given v plates) e = absurd (true≢false e)
 
-pub endplate-read : (l : Lines) → held l .ok ≡ true
-    → endplate (endplateSheet (held l .values)) (take (held l .count) (held l .plates)) ≡ read false l
+pub endplate-read : (l : Lines) → linesHeld l .ok ≡ true
+    → endplate (endplateSheet (linesHeld l .values)) (take (linesHeld l .count) (linesHeld l .plates)) ≡ read false l
 endplate-read (fault k) e = absurd (false≢true e)
 endplate-read (given v plates) e = simp (getD-padded, take-append-seam)
 
-pub flange-read : (l : Lines) → held l .ok ≡ true
-    → blindFlange (blindFlangeSheet (held l .values)) (take (held l .count) (held l .plates)) ≡ read true l
+pub flange-read : (l : Lines) → linesHeld l .ok ≡ true
+    → blindFlange (blindFlangeSheet (linesHeld l .values)) (take (linesHeld l .count) (linesHeld l .plates)) ≡ read true l
 flange-read (fault k) e = absurd (false≢true e)
 flange-read (given v plates) e = simp (getD-padded, take-append-seam)
 
 -- the plates that are handed on stand in the array
-pub count-fits : (l : Lines) → held l .count ≤ length (held l .plates)
+pub count-fits : (l : Lines) → linesHeld l .count ≤ length (linesHeld l .plates)
 count-fits (fault k) = zero-le
 count-fits (given v plates) = rw length-append (omega arith)

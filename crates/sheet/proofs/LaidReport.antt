@@ -20,13 +20,13 @@ use Rattle.sheet.proofs.PrintedExact.{report-exact}
 
 -- the answer is that to the text, and n and d' are its report's length and the space after it was laid
 pub record Laid (text d : List ℕ) (answer : Answer) (n : ℕ) (d' : List ℕ) : Type 0 where
-  pub answered : Answered (sheetOf text) answer
+  pub promised : Answered (sheetOf text) answer
   pub size : n ≡ length (reportText answer)
   pub content : d' ≡ laid 0 (reportText answer) d
 
 -- an outcome, and its numbers
-abbrev pub Told : List ℕ → List ℕ → Outcome → Type 0
-Told text d r =
+abbrev pub OutcomeTold : List ℕ → List ℕ → Outcome → Type 0
+OutcomeTold text d r =
     (r ≡ outcomeOf text d)
     × ((causeOf r ≡ causeFor text d)
     × (figureOf r ≡ figureFor text d)
@@ -45,23 +45,23 @@ written-numbers (Refused cause figure) n = (refl, refl, refl)
 module _ {text d d' : List ℕ} {answer : Answer} {n : ℕ} (l : Laid text d answer n d') where
   known : answer ≡ answerOf text
   unfolding answerOf
-  known = l .answered .0
+  known = l .promised .0
 
   pub space : d' ≡ spaceOf text d
   unfolding spaceOf
   space = l .content ∙ rw known
 
   pub exact : SheetExact text
-  exact = rw (← known) (report-exact (sheetOf text) answer (l .answered .1 .1))
+  exact = rw (← known) (report-exact (sheetOf text) answer (l .promised .1 .1))
 
-  pub short : length d < n → Told text d (ShortSpace n)
+  pub short : length d < n → OutcomeTold text d (ShortSpace n)
   unfolding outcomeOf causeFor figureFor
-  short h = rw (← known, ← l .size, lt-leb n (length d) h) (refl, (refl, refl, refl, l .answered .1 .0 .2))
+  short h = rw (← known, ← l .size, lt-leb n (length d) h) (refl, (refl, refl, refl, l .promised .1 .0 .2))
 
-  pub fits : {a : Answer} → answer ≡ a → n ≤ length d → Told text d (written a n)
+  pub fits : {a : Answer} → answer ≡ a → n ≤ length d → OutcomeTold text d (written a n)
   unfolding outcomeOf causeFor figureFor
   fits {a} e h =
-      let numbers = l .answered .1 .0 in
+      let numbers = l .promised .1 .0 in
       let w = written-numbers a n in
       rw (← known, ← l .size, le-leb n (length d) h, ← numbers .0, ← numbers .1, e)
       (refl, (w .0, w .1, w .2, rw e at (numbers .2)))

@@ -1,5 +1,5 @@
 -- Laws that the proofs of the functions cite.
-mod Choices
+mod LastArm
 mod LineByLine
 mod HandedBack
 mod Answered

@@ -13,12 +13,12 @@ use lib.ListN.{length, take, drop, set, getD, replicate, drop-of-length-le}
 use lib.Seq.{drop-cons, take-suc-set}
 use Rattle.text.specs.Ascii.{lineFeed}
 use Rattle.text.specs.Line.{isLine, valueOf, after}
-use Rattle.text.specs.Plates.{held as Plates·held}
+use Rattle.text.specs.Plates.{platesHeld}
 use Rattle.text.specs.declared.number.Number.{Number}
 use Rattle.text.specs.declared.number.Number.the-variants.{Value, Malformed}
 use Rattle.text.specs.Laws.Padded.{zeros-fill}
 use Rattle.sheet.specs.Fields.{Field, lineOf, fieldOf, fieldsOf, noField}
-use Rattle.sheet.specs.Lines.{Lines, fault, given, ahead, platesLine, lastLine, linesOf, places, held}
+use Rattle.sheet.specs.Lines.{Lines, fault, given, ahead, platesLine, lastLine, linesOf, mostFields, linesHeld}
 
 -- the numbers read so far, before what the rest is read as
 abbrev pub prepend : List ℕ → Lines → Lines
@@ -48,7 +48,7 @@ unfolding lineOf
 line-not key t reader e h = rw (← e, h)
 
 -- a sheet's numbers have room
-pub fields-fit : (blind : Bool) → length (fieldsOf blind) ≤ places
+pub fields-fit : (blind : Bool) → length (fieldsOf blind) ≤ mostFields
 fields-fit true = le-refl _
 fields-fit false = lit≤ tt
 
@@ -83,28 +83,28 @@ lines-last fields t line i h = rw (drop-of-length-le fields h)
 
 -- the last line, by what is handed back of its plates
 module _ (line : ℕ) (rest : List ℕ) where
-  pub last-fault : (o : Option (List ℕ)) → Plates·held o .ok ≡ false → lastLine line o rest ≡ fault line
+  pub last-fault : (o : Option (List ℕ)) → platesHeld o .ok ≡ false → lastLine line o rest ≡ fault line
   last-fault none e = refl
   last-fault (some plates) e = absurd (true≢false e)
 
-  pub last-more : (o : Option (List ℕ)) → Plates·held o .ok ≡ true → (length rest ≡ 0 → ⊥)
+  pub last-more : (o : Option (List ℕ)) → platesHeld o .ok ≡ true → (length rest ≡ 0 → ⊥)
       → lastLine line o rest ≡ fault (line + 1)
   last-more none e n = absurd (false≢true e)
   last-more (some plates) e n = rw (ne-eqb (length rest) 0 n)
 
-  pub last-given : (o : Option (List ℕ)) (v : List ℕ) (i : ℕ) → i ≤ length v → drop i v ≡ replicate (places - i) 0
-      → Plates·held o .ok ≡ true → length rest ≡ 0
+  pub last-given : (o : Option (List ℕ)) (v : List ℕ) (i : ℕ) → i ≤ length v → drop i v ≡ replicate (mostFields - i) 0
+      → platesHeld o .ok ≡ true → length rest ≡ 0
       → record {
         ok = true;
         fault = 0;
         values = v;
-        count = Plates·held o .count;
-        plates = Plates·held o .list;
+        count = platesHeld o .count;
+        plates = platesHeld o .list;
       }
-      ≡ held (prepend (take i v) (lastLine line o rest))
+      ≡ linesHeld (prepend (take i v) (lastLine line o rest))
   last-given none v i h z e n = absurd (false≢true e)
   last-given (some plates) v i h z e n =
-      rw (eq-eqb (length rest) 0 n, append-nil (take i v), ← zeros-fill places v i h z)
+      rw (eq-eqb (length rest) 0 n, append-nil (take i v), ← zeros-fill mostFields v i h z)
 
-pub held-fault : {l m : Lines} (xs : List ℕ) (k : ℕ) → l ≡ prepend xs m → m ≡ fault k → held (fault k) ≡ held l
-held-fault xs k e f = rw (e, f)
+pub linesHeld-fault : {l m : Lines} (xs : List ℕ) (k : ℕ) → l ≡ prepend xs m → m ≡ fault k → linesHeld (fault k) ≡ linesHeld l
+linesHeld-fault xs k e f = rw (e, f)

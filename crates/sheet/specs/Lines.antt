@@ -8,7 +8,7 @@ use lib.ListN.{length}
 use Rattle.text.specs.Ascii.{ascii, lineFeed}
 use Rattle.text.specs.Line.{isLine, valueOf, after}
 use Rattle.text.specs.Padded.{padded}
-use Rattle.text.specs.Plates.{most, platesOf}
+use Rattle.text.specs.Plates.{mostPlates, platesOf}
 use Rattle.text.specs.declared.number.Number.{Number}
 use Rattle.text.specs.declared.number.Number.the-variants.{Value, Malformed}
 use Rattle.sheet.specs.Fields.{Field, fieldOf}
@@ -43,17 +43,17 @@ linesOf line (field ∷ fields) t =
     ahead line (fieldOf field t) rest
 
 -- how they are handed back
-abbrev pub places : ℕ
-places = 14
+abbrev pub mostFields : ℕ
+mostFields = 14
 
-abbrev pub held : Lines → SheetLines
-held (fault k) =
-    record { ok = false; fault = k; values = padded places []; count = 0; plates = padded most [] }
-held (given xs plates) =
+abbrev pub linesHeld : Lines → SheetLines
+linesHeld (fault k) =
+    record { ok = false; fault = k; values = padded mostFields []; count = 0; plates = padded mostPlates [] }
+linesHeld (given xs plates) =
     record {
       ok = true;
       fault = 0;
-      values = padded places xs;
+      values = padded mostFields xs;
       count = length plates;
-      plates = padded most plates;
+      plates = padded mostPlates plates;
     }

@@ -10,8 +10,8 @@ use text::read_plates;
 use text::value;
 ghost use mathlib.Core.Path.{_≡_};
 ghost use Rattle.sheet.specs.Fields.{fieldsOf};
-ghost use Rattle.text.specs.Plates.{held as Plates·held};
-ghost use Rattle.sheet.specs.Lines.{platesLine, linesOf, held, Lines};
+ghost use Rattle.text.specs.Plates.{platesHeld};
+ghost use Rattle.sheet.specs.Lines.{platesLine, linesOf, linesHeld, Lines};
 
 // The numbers of the fields, in order, and as many plates as `count` says; or the number of the first line at fault.
 pub(crate) struct SheetLines {
@@ -23,7 +23,7 @@ pub(crate) struct SheetLines {
 }
 
 fn faulty(line: u32) -> SheetLines
-    ensures { λ r. ⌜ r ≡ held (Lines.fault line) ⌝ }
+    ensures { λ r. ⌜ r ≡ linesHeld (Lines.fault line) ⌝ }
 {
     SheetLines {
         ok: false,
@@ -36,7 +36,7 @@ fn faulty(line: u32) -> SheetLines
 
 // The plates that the line which t begins with lists.
 fn plates_line(t: &[u8]) -> Plates
-    ensures { λ r. ⌜ r ≡ Plates·held (platesLine (now (t .entry))) ⌝ }
+    ensures { λ r. ⌜ r ≡ platesHeld (platesLine (now (t .entry))) ⌝ }
 {
     if is_line(t, b"plates") {
         return read_plates(value(t, b"plates"));
@@ -46,7 +46,7 @@ fn plates_line(t: &[u8]) -> Plates
 
 // The lines of a blind flange's sheet, or else of an endplate's, from the second on.
 pub(crate) fn read_lines(text: &[u8], blind: bool) -> SheetLines
-    ensures { λ r. ⌜ r ≡ held (linesOf 2 (fieldsOf blind) (now (text .entry))) ⌝ }
+    ensures { λ r. ⌜ r ≡ linesHeld (linesOf 2 (fieldsOf blind) (now (text .entry))) ⌝ }
 {
     let fields = field_count(blind);
     let mut values = [0u32; 14];

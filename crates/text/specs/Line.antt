@@ -14,8 +14,8 @@ begins (b ∷ s) [] = false
 begins (b ∷ s) (x ∷ t) = eqb x b && begins s t
 
 -- a byte is among those of t
-abbrev pub holds : ℕ → List ℕ → Bool
-holds b t = ltb (indexOf b t) (length t)
+abbrev pub contains : ℕ → List ℕ → Bool
+contains b t = ltb (indexOf b t) (length t)
 
 -- what stands before the first byte b of t: all of t where it has none; and after it: nothing where it has none
 unfoldable pub before : ℕ → List ℕ → List ℕ
@@ -30,7 +30,7 @@ same s t = eqb (length t) (length s) && begins s t
 
 -- t begins with a line of this key: the key, = right after it, and an LF to end it
 abbrev pub isLine : List ℕ → List ℕ → Bool
-isLine key t = begins key t && eqb (getD t (length key) 0) equals && holds lineFeed t
+isLine key t = begins key t && eqb (getD t (length key) 0) equals && contains lineFeed t
 
 -- the value of the line that t begins with: what stands between the = after the key and the LF
 unfoldable pub valueOf : List ℕ → List ℕ → List ℕ

@@ -4,7 +4,7 @@ ghost use Prim.Native.Nat.{_≤_};
 ghost use lib.ListN.{length};
 ghost use Rattle.bytes.specs.Bytes.{indexOf};
 ghost use Rattle.text.specs.Ascii.{lineFeed};
-ghost use Rattle.text.specs.Line.{holds, before, after, same, isLine, valueOf};
+ghost use Rattle.text.specs.Line.{contains, before, after, same, isLine, valueOf};
 
 const LINE_FEED: u8 = b'\n';
 
@@ -19,7 +19,7 @@ fn first(t: &[u8], b: u8) -> usize
 
 // Whether a byte is among those of t.
 pub(crate) fn has(t: &[u8], b: u8) -> bool
-    ensures { λ r. ⌜ r ≡ holds b (now (t .entry)) ⌝ }
+    ensures { λ r. ⌜ r ≡ contains b (now (t .entry)) ⌝ }
 {
     first(t, b) < t.len()
 }

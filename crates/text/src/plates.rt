@@ -6,7 +6,7 @@ use crate::number::Number;
 use crate::number::read_number;
 ghost use mathlib.Core.Path.{_≡_};
 ghost use mathlib.Core.Option.{none};
-ghost use Rattle.text.specs.Plates.{platesOf, held};
+ghost use Rattle.text.specs.Plates.{platesOf, platesHeld};
 
 const COMMA: u8 = b',';
 
@@ -19,7 +19,7 @@ pub struct Plates {
 
 // What stands for a malformed list. An empty one is read as `ok` with no plates.
 pub fn malformed_plates() -> Plates
-    ensures { λ r. ⌜ r ≡ held none ⌝ }
+    ensures { λ r. ⌜ r ≡ platesHeld none ⌝ }
 {
     Plates {
         ok: false,
@@ -30,7 +30,7 @@ pub fn malformed_plates() -> Plates
 
 // The plates that v lists.
 pub fn read_plates(v: &[u8]) -> Plates
-    ensures { λ r. ⌜ r ≡ held (platesOf (now (v .entry))) ⌝ }
+    ensures { λ r. ⌜ r ≡ platesHeld (platesOf (now (v .entry))) ⌝ }
 {
     let mut list = [0u32; 32];
     let mut count = 0;

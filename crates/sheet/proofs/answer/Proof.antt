@@ -22,7 +22,7 @@ laid-out : (c : tie.After-write)
 unfolding answerOf
 laid-out c =
     let made = c .write .ensures in
-    record { answered = c .before .before .answer-to .ensures; size = made .0; content = made .1 .0 }
+    record { promised = c .before .before .answer-to .ensures; size = made .0; content = made .1 .0 }
 
 -- beside the outcome, in every case
 left : (c : tie.After-write)

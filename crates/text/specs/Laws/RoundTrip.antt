@@ -9,7 +9,7 @@ use lib.ListN.{length, length-append}
 use lib.Seq.{drop-append-seam, drop-append-add, take-append-seam, getD-append-seam}
 use Rattle.bytes.specs.Bytes.{indexOf, indexAfter}
 use Rattle.text.specs.Ascii.{equals, lineFeed}
-use Rattle.text.specs.Line.{holds, after, isLine, valueOf}
+use Rattle.text.specs.Line.{contains, after, isLine, valueOf}
 use Rattle.text.specs.Decimal.{decimal, numberLine}
 use Rattle.text.specs.Printed.{printedWithin}
 use Rattle.text.specs.declared.number.Number.the-variants.{Value}
@@ -48,7 +48,7 @@ module _ (key rest : List ℕ) (n : ℕ) (k : Lacks lineFeed key) where
         index-append lineFeed (decimal n) (lineFeed ∷ rest) (decimal-line n),
       )
 
-  line-ended : holds lineFeed (start ++ tail) ≡ true
+  line-ended : contains lineFeed (start ++ tail) ≡ true
   line-ended =
       lt-ltb
       (indexOf lineFeed (start ++ tail))

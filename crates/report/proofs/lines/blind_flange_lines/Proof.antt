@@ -5,7 +5,7 @@ use native.Mathlib.Omega.{arith}
 use borrow.Author.Needs.{needs}
 use lib.ListN.{length}
 use Rattle.report.specs.Report.{reportText, longest}
-use Rattle.report.proofs.Written.{nothing, then}
+use Rattle.report.proofs.Written.{nothing, followed-by}
 use Rattle.report.proofs.lines.blind_flange_lines.Statement.{statement}
 use Rattle.report.proofs.lines.blind_flange_lines.Tie as tie
 
@@ -60,17 +60,17 @@ returns c =
     let cold = g .before .before .before .before .before in
     let stress = cold .before .before .before .before .before in
     let r = room wm1 in (
-      then (stress .put-line .ensures .0)
-          (then (cold .put-line2 .ensures .0)
-          (then (g .put-line3 .ensures .0)
-          (then (b .put-line4 .ensures .0)
-          (then (wm1 .put-line5 .ensures .0)
-          (then (wm2 .put-line6 .ensures .0)
-          (then (w .put-line7 .ensures .0)
-          (then (need .put-line8 .ensures .0)
-          (then (edge .put-line9 .ensures .0)
-          (then (total .put-line10 .ensures .0)
-          (then (plate .put-line11 .ensures .0) nothing)))))))))),
+      followed-by (stress .put-line .ensures .0)
+          (followed-by (cold .put-line2 .ensures .0)
+          (followed-by (g .put-line3 .ensures .0)
+          (followed-by (b .put-line4 .ensures .0)
+          (followed-by (wm1 .put-line5 .ensures .0)
+          (followed-by (wm2 .put-line6 .ensures .0)
+          (followed-by (w .put-line7 .ensures .0)
+          (followed-by (need .put-line8 .ensures .0)
+          (followed-by (edge .put-line9 .ensures .0)
+          (followed-by (total .put-line10 .ensures .0)
+          (followed-by (plate .put-line11 .ensures .0) nothing)))))))))),
       omega arith,
     )
 

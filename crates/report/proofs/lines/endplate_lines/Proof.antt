@@ -2,7 +2,7 @@
 use native.Mathlib.Omega.{arith}
 use borrow.Author.Needs.{needs}
 use Rattle.report.specs.Report.{reportText}
-use Rattle.report.proofs.Written.{nothing, then}
+use Rattle.report.proofs.Written.{nothing, followed-by}
 use Rattle.report.proofs.lines.endplate_lines.Statement.{statement}
 use Rattle.report.proofs.lines.endplate_lines.Tie as tie
 
@@ -13,10 +13,10 @@ returns c =
     let total = plate .before .before .before .before .before in
     let need = total .before .before .before .before .before in
     let stress = need .before .before .before .before .before in (
-      then (stress .put-line .ensures .0)
-          (then (need .put-line2 .ensures .0)
-          (then (total .put-line3 .ensures .0)
-          (then (plate .put-line4 .ensures .0) nothing))),
+      followed-by (stress .put-line .ensures .0)
+          (followed-by (need .put-line2 .ensures .0)
+          (followed-by (total .put-line3 .ensures .0)
+          (followed-by (plate .put-line4 .ensures .0) nothing))),
       omega arith,
     )
 

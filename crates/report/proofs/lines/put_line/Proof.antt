@@ -2,7 +2,7 @@
 use native.Mathlib.Omega.{arith}
 use borrow.Author.Needs.{needs}
 use Rattle.text.specs.Decimal.{numberLine}
-use Rattle.report.proofs.Written.{then}
+use Rattle.report.proofs.Written.{followed-by}
 use Rattle.report.proofs.lines.put_line.Statement.{statement}
 use Rattle.report.proofs.lines.put_line.Tie as tie
 
@@ -14,7 +14,7 @@ returns c =
     let e = d .before .before .before .before in
     let k = e .before .before .before .before .before in
     let digits = d .put-decimal .ensures in
-    (then (then (k .put .ensures) (then (e .put2 .ensures) (digits .0))) (f .put3 .ensures), omega arith)
+    (followed-by (followed-by (k .put .ensures) (followed-by (e .put2 .ensures) (digits .0))) (f .put3 .ensures), omega arith)
 
 pub put-line-spec : {M : Type 1} → statement M
 put-line-spec =

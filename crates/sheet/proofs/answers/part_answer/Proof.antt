@@ -9,7 +9,7 @@ use lib.Seq.{length-take-le}
 use Rattle.text.specs.Ascii.{lineFeed}
 use Rattle.text.specs.Line.{after}
 use Rattle.sheet.specs.Fields.{fieldsOf}
-use Rattle.sheet.specs.Lines.{Lines, linesOf, held}
+use Rattle.sheet.specs.Lines.{Lines, linesOf, linesHeld}
 use Rattle.sheet.specs.Sheet.{endplate, blindFlange, read, partOf}
 use Rattle.sheet.specs.declared.lines.SheetLines.{SheetLines}
 use Rattle.sheet.proofs.HandedBack.{malformed-read, endplate-read, flange-read, count-fits}
@@ -23,7 +23,7 @@ lines c =
     let a = c .before .before .before .args in
     linesOf 2 (fieldsOf (a .blind)) (after lineFeed (a .text .now))
 
-handed : (c : tie.After-read-lines) → c .read-lines .result ≡ held (lines c)
+handed : (c : tie.After-read-lines) → c .read-lines .result ≡ linesHeld (lines c)
 handed c = rw (← c .before .next-line .ensures) (c .read-lines .ensures)
 
 -- the plates handed on stand in the array
@@ -31,7 +31,7 @@ room : (c : tie.After-read-lines) → c .read-lines .result .count ≤ length (c
 room c = rw (handed c) (count-fits (lines c))
 
 -- they are in order, or not
-in-order : (c : tie.After-read-lines) (b : Bool) → c .read-lines .result .ok ≡ b → held (lines c) .ok ≡ b
+in-order : (c : tie.After-read-lines) (b : Bool) → c .read-lines .result .ok ≡ b → linesHeld (lines c) .ok ≡ b
 in-order c b e = ap (λ (h : SheetLines). h .ok) (sym (handed c)) ∙ e
 
 returns : tie.Need-returns

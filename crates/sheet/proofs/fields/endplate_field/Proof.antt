@@ -2,7 +2,7 @@
 use mathlib.Core.Path.{_≡_}
 use native.Mathlib.Omega.{arith}
 use borrow.Author.Needs.{needs}
-use Rattle.sheet.proofs.Choices.{past-all}
+use Rattle.sheet.proofs.LastArm.{past-all}
 use Rattle.sheet.proofs.fields.endplate_field.Statement.{statement}
 use Rattle.sheet.proofs.fields.endplate_field.Tie as tie
 

@@ -8,13 +8,13 @@ use borrow.Author.Tests.{not-true, not-false}
 use lib.ListN.{length, take, drop, replicate}
 use Rattle.text.specs.Ascii.{lineFeed}
 use Rattle.text.specs.Line.{after}
-use Rattle.text.specs.Plates.{held as Plates·held}
+use Rattle.text.specs.Plates.{platesHeld}
 use Rattle.text.specs.declared.plates.Plates.{Plates}
 use Rattle.text.specs.Laws.Padded.{zeros-after}
 use Rattle.sheet.specs.Fields.{fieldsOf}
-use Rattle.sheet.specs.Lines.{fault, platesLine, lastLine, linesOf, places, held}
+use Rattle.sheet.specs.Lines.{fault, platesLine, lastLine, linesOf, mostFields, linesHeld}
 use Rattle.sheet.proofs.LineByLine.{prepend, prepend-nothing, fields-fit, line-fault, line-more}
-use Rattle.sheet.proofs.LineByLine.{lines-last, last-fault, last-more, last-given, held-fault}
+use Rattle.sheet.proofs.LineByLine.{lines-last, last-fault, last-more, last-given, linesHeld-fault}
 use Rattle.sheet.proofs.lines.read_lines.Statement.{statement}
 use Rattle.sheet.proofs.lines.read_lines.Tie as tie
 
@@ -22,10 +22,10 @@ use Rattle.sheet.proofs.lines.read_lines.Tie as tie
 abbrev Inv-loop : tie.InvT-loop
 Inv-loop text blind fields values₀ t₀ i₀ values t i =
     (linesOf 2 (fieldsOf blind) text ≡ prepend (take i values) (linesOf (i + 2) (drop i (fieldsOf blind)) t))
-    × (drop i values ≡ replicate (places - i) 0)
-    × (length values ≡ places)
+    × (drop i values ≡ replicate (mostFields - i) 0)
+    × (length values ≡ mostFields)
     × (fields ≡ length (fieldsOf blind))
-    × (fields ≤ places)
+    × (fields ≤ mostFields)
     × (i ≤ fields)
 
 abbrev μ-loop : tie.MeasureT-loop
@@ -42,7 +42,7 @@ returns c =
     let fields = fieldsOf (l .before .before .before .args .blind) in
     let none = sym (c .before .before .before .field .ensures) ∙ c .before .enum-told .given .1 in
     c .faulty .ensures
-    ∙ held-fault
+    ∙ linesHeld-fault
     (take (l .loop .i) (l .loop .values))
     (l .loop .i + 2)
     (l .loop .inv .0)
@@ -57,7 +57,7 @@ loop-again c =
       l .loop .inv .0
           ∙ line-more fields (l .loop .t .now) (l .loop .i) (search needs) (l .loop .values) x (search needs) value
           ∙ rw (c .next-line .ensures),
-      zeros-after places (l .loop .values) (l .loop .i) x (search needs) (l .loop .inv .2) (l .loop .inv .1),
+      zeros-after mostFields (l .loop .values) (l .loop .i) x (search needs) (l .loop .inv .2) (l .loop .inv .1),
       search needs,
       search needs,
       search needs,
@@ -81,14 +81,14 @@ last-at-fault : (c : tie.After-plates-line Inv-loop μ-loop) (k : ℕ)
     let t = l .loop .t .now in
     let a = l .before .before .before .args in
     lastLine (l .before .field-count .result + 2) (platesLine t) (after lineFeed t) ≡ fault k
-    → held (fault k) ≡ held (linesOf 2 (fieldsOf (a .blind)) (a .text .now))
+    → linesHeld (fault k) ≡ linesHeld (linesOf 2 (fieldsOf (a .blind)) (a .text .now))
 last-at-fault c k e =
     let l = c .before .before .loop in
-    held-fault (take (l .i) (l .values)) k (l .inv .0) (last c ∙ e)
+    linesHeld-fault (take (l .i) (l .values)) k (l .inv .0) (last c ∙ e)
 
 -- whether the plates are a list
 listed : (c : tie.After-plates-line Inv-loop μ-loop) (b : Bool) → c .plates-line .result .ok ≡ b
-    → Plates·held (platesLine (c .before .before .loop .t .now)) .ok ≡ b
+    → platesHeld (platesLine (c .before .before .loop .t .now)) .ok ≡ b
 listed c b e = ap (λ (h : Plates). h .ok) (sym (c .plates-line .ensures)) ∙ e
 
 returns-2 : tie.Need-returns-2 Inv-loop μ-loop
@@ -119,7 +119,7 @@ returns-4 c =
     rw (← c .before .before .next-line2 .ensures) (c .before .if2 .left) in
     rw (p .plates-line .ensures)
     (last-given _ _ (platesLine (l .t .now)) (l .values) (l .i) (search needs) (l .inv .1) some nothing
-    ∙ ap held (sym (l .inv .0 ∙ ap (prepend (take (l .i) (l .values))) (last p))))
+    ∙ ap linesHeld (sym (l .inv .0 ∙ ap (prepend (take (l .i) (l .values))) (last p))))
 
 pub read-lines-spec : {M : Type 1} → statement M
 read-lines-spec =

@@ -8,23 +8,23 @@ use lib.ListN.{length, take, drop, set, replicate}
 use Rattle.text.specs.Ascii.{comma}
 use Rattle.text.specs.Line.{before}
 use Rattle.text.specs.Number.{numberOf}
-use Rattle.text.specs.Plates.{most, platesOf, numbersOf, held}
+use Rattle.text.specs.Plates.{mostPlates, platesOf, numbersListed, platesHeld}
 use Rattle.text.specs.Laws.Padded.{zeros-after}
-use Rattle.text.proofs.Listed.{prepend, plates-none, plates-some, numbers-over, numbers-malformed}
-use Rattle.text.proofs.Listed.{listed-more, listed-last, held-some, held-none}
+use Rattle.text.proofs.Listed.{prependList, plates-none, plates-some, numbers-over, numbers-malformed}
+use Rattle.text.proofs.Listed.{listed-more, listed-last, platesHeld-some, platesHeld-none}
 use Rattle.text.proofs.plates.read_plates.Statement.{statement}
 use Rattle.text.proofs.plates.read_plates.Tie as tie
 
 -- what is read so far and the rest of the text give the whole list; past the numbers the array is 0
 abbrev Inv-loop : tie.InvT-loop
 Inv-loop v list₀ count₀ t₀ list count t =
-    (platesOf v ≡ prepend (take count list) (numbersOf (most - count) t))
-    × (drop count list ≡ replicate (most - count) 0)
-    × (length list ≡ most)
-    × (count ≤ most)
+    (platesOf v ≡ prependList (take count list) (numbersListed (mostPlates - count) t))
+    × (drop count list ≡ replicate (mostPlates - count) 0)
+    × (length list ≡ mostPlates)
+    × (count ≤ mostPlates)
 
 abbrev μ-loop : tie.MeasureT-loop
-μ-loop v list₀ count₀ t₀ list count t = most - count
+μ-loop v list₀ count₀ t₀ list count t = mostPlates - count
 
 -- the number that stands before the next comma
 spelled : (c : tie.After-read-number Inv-loop μ-loop)
@@ -36,7 +36,7 @@ returns-2 c =
     let l = c .before .before .before .before .before .before .loop in
     let none = spelled (c .before .before .before) ∙ c .before .enum-told .given .1 in
     c .malformed-plates .ensures
-    ∙ held-none _ (take (l .count) (l .list)) (l .inv .0) (numbers-malformed (l .t .now) (l .count) (search needs) none)
+    ∙ platesHeld-none _ (take (l .count) (l .list)) (l .inv .0) (numbers-malformed (l .t .now) (l .count) (search needs) none)
 
 returns-3 : tie.Need-returns-3 Inv-loop μ-loop
 returns-3 c =
@@ -44,13 +44,13 @@ returns-3 c =
     let x = c .before .before .before .number .given .0 .0 in
     let value = spelled (c .before .before .before .before .before) ∙ c .before .before .before .number .given .1 in
     let alone = sym (c .before .has .ensures) ∙ not-true (c .before .has .result) (c .if2 .taken) in
-    held-some
+    platesHeld-some
     (set (l .list) (l .count) x)
     (l .count + 1)
     (search needs)
     (search needs)
-    (zeros-after most (l .list) (l .count) x (search needs) (l .inv .2) (l .inv .1))
-    ∙ ap held
+    (zeros-after mostPlates (l .list) (l .count) x (search needs) (l .inv .2) (l .inv .1))
+    ∙ ap platesHeld
     (sym (l .inv .0 ∙ listed-last (l .t .now) (l .count) (search needs) x value (l .list) (search needs) alone))
 
 loop-again : tie.Need-loop-again Inv-loop μ-loop
@@ -64,7 +64,7 @@ loop-again c =
       l .inv .0
           ∙ listed-more (l .t .now) (l .count) (search needs) x value (l .list) (search needs) more
           ∙ rw (c .part-after .ensures),
-      zeros-after most (l .list) (l .count) x (search needs) (l .inv .2) (l .inv .1),
+      zeros-after mostPlates (l .list) (l .count) x (search needs) (l .inv .2) (l .inv .1),
       search needs,
       search needs,
     )
@@ -73,7 +73,7 @@ returns-4 : tie.Need-returns-4 Inv-loop μ-loop
 returns-4 c =
     let l = c .before .before .loop in
     c .malformed-plates2 .ensures
-    ∙ held-none _ (take (l .count) (l .list)) (l .inv .0) (numbers-over (l .t .now) (most - l .count) (omega arith))
+    ∙ platesHeld-none _ (take (l .count) (l .list)) (l .inv .0) (numbers-over (l .t .now) (mostPlates - l .count) (omega arith))
 
 pub read-plates-spec : {M : Type 1} → statement M
 read-plates-spec =
@@ -81,7 +81,7 @@ read-plates-spec =
     (tie.spec
     Inv-loop
     μ-loop
-    (λ c. ap held (sym (plates-none _ (c .if1 .taken))))
+    (λ c. ap platesHeld (sym (plates-none _ (c .if1 .taken))))
     (λ c. (plates-some _ (c .if1 .left), refl, refl, search needs))
     (λ c κs. search needs)
     (λ c κs. search needs)
