@@ -4,8 +4,8 @@ use mathlib.Core.Path.{_≡_}
 use mathlib.Core.List.{List}
 use Rattle.rules.specs.Answer.{endplateAnswer, blindFlangeAnswer, Accepted}
 use Rattle.rules.specs.Exact.{EndplateThicknessExact, ThicknessExact, EdgeExact, EndplateExact, BlindFlangeExact}
-use Rattle.rules.specs.declared.EndplateSheet.{EndplateSheet}
-use Rattle.rules.specs.declared.BlindFlangeSheet.{BlindFlangeSheet}
+use Rattle.limits.specs.declared.EndplateSheet.{EndplateSheet}
+use Rattle.limits.specs.declared.BlindFlangeSheet.{BlindFlangeSheet}
 use Rattle.rules.specs.declared.Answer.{Answer}
 use Rattle.rules.specs.declared.Answer.the-variants.{Endplate, BlindFlange, Refused}
 use Rattle.capi.specs.Places.{figureAt, EndplateFigureExact, BlindFlangeFigureExact}

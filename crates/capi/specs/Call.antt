@@ -1,7 +1,7 @@
 -- The numbers of a call from C as those of a sheet, in the order of its lines.
 use Prim.Native.Nat.{ℕ}
-use Rattle.rules.specs.declared.EndplateSheet.{EndplateSheet}
-use Rattle.rules.specs.declared.BlindFlangeSheet.{BlindFlangeSheet}
+use Rattle.limits.specs.declared.EndplateSheet.{EndplateSheet}
+use Rattle.limits.specs.declared.BlindFlangeSheet.{BlindFlangeSheet}
 
 -- of an endplate; form is 1, 2, 3 for a, c, d
 abbrev pub endplateCall : ℕ → ℕ → ℕ → ℕ → ℕ → ℕ → ℕ → EndplateSheet

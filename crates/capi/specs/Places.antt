@@ -5,8 +5,8 @@ use mathlib.Core.Path.{_≡_}
 use lib.ListN.{getD}
 use Rattle.rules.specs.Answer.{causeOf, figureOf, reportOf, Accepted}
 use Rattle.rules.specs.Exact.{EndplateThicknessExact, ThicknessExact, EdgeExact}
-use Rattle.rules.specs.declared.EndplateSheet.{EndplateSheet}
-use Rattle.rules.specs.declared.BlindFlangeSheet.{BlindFlangeSheet}
+use Rattle.limits.specs.declared.EndplateSheet.{EndplateSheet}
+use Rattle.limits.specs.declared.BlindFlangeSheet.{BlindFlangeSheet}
 use Rattle.rules.specs.declared.Answer.{Answer}
 
 -- 0 the cause, 1 its figure, from 2 on the report's figures

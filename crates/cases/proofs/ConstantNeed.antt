@@ -8,9 +8,9 @@ use Rattle.bytes.specs.Bytes.{indexOf, indexAfter}
 use Rattle.tables.specs.DesignStress.{column, designStress}
 use Rattle.root.specs.Least.{_≥_, Least, least-most}
 use Rattle.root.specs.Laws.{square-le}
-use Rattle.rules.specs.Endplate.{endplateStress}
+use Rattle.limits.specs.Stress.{endplateStress}
 use Rattle.rules.specs.Answer.{Accepted}
-use Rattle.rules.specs.declared.EndplateSheet.{EndplateSheet}
+use Rattle.limits.specs.declared.EndplateSheet.{EndplateSheet}
 use Rattle.text.specs.Line.{before, after, valueOf}
 use Rattle.text.specs.Number.{numberOf}
 use Rattle.text.specs.Plates.{numbersListed, platesOf}

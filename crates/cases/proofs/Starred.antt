@@ -8,13 +8,16 @@ use lib.ListN.{getD}
 use Rattle.bytes.specs.Bytes.{indexOf, indexAfter}
 use Rattle.tables.specs.DesignStress.{column, designStress}
 use Rattle.root.specs.Root.{ceilDiv, wholeRootBy, leastRoot, leastRootOver}
-use Rattle.rules.specs.Endplate.{endplateStress, endplateThickness}
+use Rattle.limits.specs.Stress.{endplateStress}
+use Rattle.rules.specs.Endplate.{endplateThickness}
 use Rattle.rules.specs.Gasket.{wideWidth, effectiveWidth, reactionDiameter}
 use Rattle.rules.specs.Loads.{exactOperatingLoad, exactSeatingLoad, operatingLoad, seatingLoad, flangeLoad, gasketOf}
 use Rattle.rules.specs.Bolts.{boltsSufficient}
 use Rattle.rules.specs.BlindFlange.{flangeThickness, edgeUnder}
 use Rattle.rules.specs.Figures.{endplateFigures, blindFlangeFigures}
-use Rattle.rules.specs.Causes.{firstOf, endplateCauses, flangeLimits, boltsCauses, blindFlangeCauses}
+use Rattle.limits.specs.Causes.{firstOf}
+use Rattle.limits.specs.Limits.{endplateCauses, flangeLimits}
+use Rattle.rules.specs.FlangeCauses.{boltsCauses, blindFlangeCauses}
 use Rattle.plates.specs.Plates.{smallestServing}
 use Rattle.rules.specs.Answer.{endplateSizing, blindFlangeSizing, endplateAnswer, blindFlangeAnswer}
 use Rattle.text.specs.Ascii.{ascii, lineFeed}

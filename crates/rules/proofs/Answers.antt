@@ -4,34 +4,24 @@ use mathlib.Core.List.{List}
 use Prim.Native.Nat.{ℕ}
 use native.Mathlib.Omega.{arith}
 use Rattle.plates.specs.Plates.{smallestServing}
-use Rattle.rules.specs.Answer.{endplateSizing, blindFlangeSizing, totalOf, withPlate, fromPlates}
-use Rattle.rules.specs.Answer.{endplateAnswer, blindFlangeAnswer}
-use Rattle.rules.specs.Numbers.{endplateCause, endplateFigure, endplateReport}
-use Rattle.rules.specs.Numbers.{blindFlangeCause, blindFlangeFigure, blindFlangeReport}
-use Rattle.rules.specs.Exact.{EndplateThicknessExact, EndplateExact}
-use Rattle.rules.specs.Exact.{ThicknessExact, EdgeExact, BlindFlangeExact}
-use Rattle.rules.specs.declared.EndplateSheet.{EndplateSheet}
-use Rattle.rules.specs.declared.EndplateFigures.{EndplateFigures}
-use Rattle.rules.specs.declared.BlindFlangeSheet.{BlindFlangeSheet}
-use Rattle.rules.specs.declared.BlindFlangeFigures.{BlindFlangeFigures}
 use Rattle.plates.specs.declared.Choice.{Choice}
 use Rattle.plates.specs.declared.Choice.the-variants.{Plate, NoPlate}
+use Rattle.limits.specs.declared.EndplateSheet.{EndplateSheet}
+use Rattle.limits.specs.declared.BlindFlangeSheet.{BlindFlangeSheet}
+use Rattle.rules.specs.Answer.{endplateSizing, blindFlangeSizing, totalOf, withPlate, fromPlates}
+use Rattle.rules.specs.Answer.{endplateAnswer, blindFlangeAnswer}
+use Rattle.rules.specs.Numbers.{endplateCause, endplateFigure, endplateReport, blindFlangeCause}
+use Rattle.rules.specs.Numbers.{blindFlangeFigure, blindFlangeReport}
+use Rattle.rules.specs.Exact.{EndplateThicknessExact, EndplateExact, ThicknessExact, EdgeExact}
+use Rattle.rules.specs.Exact.{BlindFlangeExact}
+use Rattle.rules.specs.declared.EndplateFigures.{EndplateFigures}
+use Rattle.rules.specs.declared.BlindFlangeFigures.{BlindFlangeFigures}
 use Rattle.rules.specs.declared.sizing.Sizing.{Sizing}
 use Rattle.rules.specs.declared.sizing.Sizing.the-variants.{Endplate, BlindFlange}
 use Rattle.rules.specs.declared.Answer.{Answer}
 use Rattle.rules.proofs.Sizings.{by-cause}
 use Rattle.rules.proofs.Numbers.{Told, endplate-numbers, flange-numbers}
 use Rattle.rules.proofs.Exactness.{endplate-least, thickness-near, edge-near}
-
--- what was worked step by step is the answer from the plates
-pub chosen :
-    {sizing z : Sizing} {total : ℕ} {choice : Choice} {answer : Answer} (plates : List ℕ) →
-    sizing ≡ z →
-    total ≡ totalOf sizing →
-    choice ≡ smallestServing total plates →
-    answer ≡ withPlate sizing choice →
-    answer ≡ fromPlates z plates
-chosen plates e t c a = rw (a, c, t, e)
 
 -- an answer that is the definition's has what the definition's has
 along : (P : Answer → Type 0) {r answer : Answer} → P answer → r ≡ answer → P r

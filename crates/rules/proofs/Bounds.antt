@@ -11,10 +11,10 @@ use Rattle.tables.specs.DesignStress.{designStress}
 use Rattle.tables.specs.Laws.{stress-most}
 use Rattle.root.specs.Least.{least-most}
 use Rattle.root.specs.Laws.{ceilDiv-le}
-use Rattle.rules.specs.Endplate.{formA, endplateStress, endplateThickness}
-use Rattle.rules.specs.Endplate.{endplate-factor, endplateThickness-least}
-use Rattle.rules.specs.BlindFlange.{moment, flangeLoading, flangeThickness, edgeUnder}
-use Rattle.rules.specs.BlindFlange.{flange-factor, flangeThickness-least, edgeUnder-least}
+use Rattle.limits.specs.Stress.{formA, endplateStress}
+use Rattle.rules.specs.Endplate.{endplateThickness, endplate-factor, endplateThickness-least}
+use Rattle.rules.specs.BlindFlange.{moment, flangeLoading, flangeThickness, edgeUnder, flange-factor}
+use Rattle.rules.specs.BlindFlange.{flangeThickness-least, edgeUnder-least}
 use Rattle.rules.specs.Gasket.{narrow, wideWidth, wideWidth-least, effectiveWidth, reactionDiameter}
 use Rattle.rules.specs.Loads.{exactOperatingLoad, exactSeatingLoad, operatingLoad, seatingLoad, flangeLoad}
 use Rattle.rules.proofs.Products.{ring-products}

@@ -7,19 +7,21 @@ use native.Mathlib.Omega.{arith}
 use Rattle.tables.specs.DesignStress.{designStress}
 use Rattle.root.specs.Least.{Least}
 use Rattle.root.specs.Laws.{square-le}
-use Rattle.rules.specs.Endplate.{endplateStress, endplateThickness-least}
+use Rattle.limits.specs.Stress.{endplateStress}
+use Rattle.limits.specs.Causes.{firstCause}
+use Rattle.limits.specs.Limits.{endplateCauses}
+use Rattle.limits.specs.declared.EndplateSheet.{EndplateSheet}
+use Rattle.limits.specs.declared.BlindFlangeSheet.{BlindFlangeSheet}
+use Rattle.rules.specs.Endplate.{endplateThickness-least}
 use Rattle.rules.specs.Gasket.{reactionDiameter}
-use Rattle.rules.specs.Loads.{operatingLoad, seatingLoad, flangeLoad}
-use Rattle.rules.specs.Loads.{exactOperatingLoadOf, exactSeatingLoadOf, gasketOf}
+use Rattle.rules.specs.Loads.{operatingLoad, seatingLoad, flangeLoad, exactOperatingLoadOf, exactSeatingLoadOf}
+use Rattle.rules.specs.Loads.{gasketOf}
 use Rattle.rules.specs.Bolts.{boltArea}
 use Rattle.rules.specs.BlindFlange.{edgeUnder, flangeThickness-least, edgeUnder-least}
 use Rattle.rules.specs.Figures.{ambient, endplateFigures, blindFlangeFigures}
-use Rattle.rules.specs.Causes.{firstCause, endplateCauses, blindFlangeCauses}
-use Rattle.rules.specs.Exact.{EndplateHolds, AmbientEdgeHolds, OperatingEdgeHolds, Near}
-use Rattle.rules.specs.Exact.{ThicknessExact, EdgeExact}
-use Rattle.rules.specs.Exact.{exactFlangeLoadOf}
-use Rattle.rules.specs.declared.EndplateSheet.{EndplateSheet}
-use Rattle.rules.specs.declared.BlindFlangeSheet.{BlindFlangeSheet}
+use Rattle.rules.specs.FlangeCauses.{blindFlangeCauses}
+use Rattle.rules.specs.Exact.{EndplateHolds, AmbientEdgeHolds, OperatingEdgeHolds, Near, ThicknessExact}
+use Rattle.rules.specs.Exact.{EdgeExact, exactFlangeLoadOf}
 use Rattle.rules.proofs.WithinLimits.{FlangeWithin, BoltingWithin, endplate-within, both-within}
 use Rattle.rules.proofs.FlangeBounds.{Stresses, stresses, Circle, circle}
 use Rattle.rules.proofs.RoundedLoads.{operating-low, operating-high, flange-low, flange-high}

@@ -4,12 +4,12 @@ use Prim.Native.Nat.{ℕ, _+_, _-_, _/_, _^_, _≤_}
 use native.Mathlib.Omega.{arith}
 use Rattle.tables.specs.DesignStress.{designStress}
 use Rattle.tables.specs.Laws.{stress-least, stress-most, ambient-greatest}
+use Rattle.limits.specs.declared.BlindFlangeSheet.{BlindFlangeSheet}
 use Rattle.rules.specs.Gasket.{effectiveWidth, reactionDiameter}
 use Rattle.rules.specs.Loads.{flangeLoad, gasketOf}
 use Rattle.rules.specs.Bolts.{boltArea}
 use Rattle.rules.specs.BlindFlange.{flangeThickness, edgeThickness}
 use Rattle.rules.specs.Figures.{ambient}
-use Rattle.rules.specs.declared.BlindFlangeSheet.{BlindFlangeSheet}
 use Rattle.rules.specs.declared.gasket.Gasket.{Gasket}
 use Rattle.rules.proofs.WithinLimits.{FlangeWithin, BoltingWithin}
 use Rattle.rules.proofs.Bounds.{inset, operatingLoad-most, seatingLoad-most, flangeLoad-most}

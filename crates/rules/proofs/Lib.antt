@@ -1,6 +1,4 @@
 -- Laws that the proofs of the functions cite.
-mod Rules
-mod CheckingOrder
 mod WithinLimits
 mod Products
 mod Bounds

@@ -7,33 +7,32 @@ use Prim.Native.Nat.{ℕ}
 use native.Mathlib.Omega.{arith}
 use borrow.Author.Tests.{ne-eqb}
 use lib.Dec.{eqb}
-use Rattle.rules.specs.Causes.{Tests, any, Causes, firstOf, firstCause}
-use Rattle.rules.specs.Causes.{endplateCauses, flangeLimits, boltsCauses, blindFlangeCauses}
-use Rattle.rules.specs.Figures.{endplateFigures, blindFlangeFigures}
 use Rattle.plates.specs.Plates.{smallestServing, plateOf, isChosen}
-use Rattle.rules.specs.Answer.{refusedOr, totalOf, withPlate, fromPlates, causeOf, figureOf, reportOf}
-use Rattle.rules.specs.Answer.{endplateList, blindFlangeList, endplateSizing, blindFlangeSizing}
-use Rattle.rules.specs.Answer.{endplateAnswer, blindFlangeAnswer}
-use Rattle.rules.specs.Numbers.{causeFrom, figureFrom, reportFrom}
-use Rattle.rules.specs.Numbers.{endplateCause, endplateFigure, endplateReport}
-use Rattle.rules.specs.Numbers.{blindFlangeCause, blindFlangeFigure, blindFlangeReport}
-use Rattle.rules.specs.declared.EndplateSheet.{EndplateSheet}
-use Rattle.rules.specs.declared.EndplateFigures.{EndplateFigures}
-use Rattle.rules.specs.declared.BlindFlangeSheet.{BlindFlangeSheet}
-use Rattle.rules.specs.declared.BlindFlangeFigures.{BlindFlangeFigures}
 use Rattle.plates.specs.Laws.{chosen-serves}
 use Rattle.plates.specs.declared.Choice.{Choice}
 use Rattle.plates.specs.declared.Choice.the-variants.{Plate, NoPlate}
+use Rattle.limits.specs.Causes.{Tests, any, Causes, firstOf, firstCause, ofNumbers, ofBolting, ofLoads, ofPlates}
+use Rattle.limits.specs.Limits.{endplateCauses, flangeLimits}
+use Rattle.limits.specs.declared.EndplateSheet.{EndplateSheet}
+use Rattle.limits.specs.declared.BlindFlangeSheet.{BlindFlangeSheet}
+use Rattle.limits.specs.Laws.{in-turn, not-among}
+use Rattle.rules.specs.FlangeCauses.{boltsCauses, blindFlangeCauses}
+use Rattle.rules.specs.Figures.{endplateFigures, blindFlangeFigures}
+use Rattle.rules.specs.Answer.{refusedOr, totalOf, withPlate, fromPlates, causeOf, figureOf, reportOf}
+use Rattle.rules.specs.Answer.{endplateList, blindFlangeList, endplateSizing, blindFlangeSizing, endplateAnswer}
+use Rattle.rules.specs.Answer.{blindFlangeAnswer}
+use Rattle.rules.specs.Numbers.{causeFrom, figureFrom, reportFrom, endplateCause, endplateFigure}
+use Rattle.rules.specs.Numbers.{endplateReport, blindFlangeCause, blindFlangeFigure, blindFlangeReport}
+use Rattle.rules.specs.declared.EndplateFigures.{EndplateFigures}
+use Rattle.rules.specs.declared.BlindFlangeFigures.{BlindFlangeFigures}
 use Rattle.rules.specs.declared.sizing.Sizing.{Sizing}
 use Rattle.rules.specs.declared.sizing.Sizing.the-variants.{Endplate, BlindFlange, Refused}
 use Rattle.rules.specs.declared.Answer.{Answer}
-use Rattle.rules.proofs.CheckingOrder.{in-turn, not-among}
 
 -- ---- the causes before 14
 
--- checking order but for 14
-abbrev beforePlate : List ℕ
-beforePlate = 2 ∷ 3 ∷ 4 ∷ 5 ∷ 6 ∷ 7 ∷ 8 ∷ 9 ∷ 10 ∷ 11 ∷ 12 ∷ 13 ∷ []
+abbrev beforePlates : List ℕ
+beforePlates = ofNumbers ++ ofBolting ++ ofLoads
 
 -- 14 is looked for where none before it applies, and is not among them
 abbrev PlateLast : Causes → Tests → Type 0
@@ -44,15 +43,15 @@ PlateLast cs t =
 endplate-last : (s : EndplateSheet) (t : Tests) → PlateLast (endplateCauses s) t
 unfolding firstOf endplateCauses
 endplate-last s t = (
-  in-turn beforePlate (14 ∷ []) (endplateCauses s ++ (14, t) ∷ []) tt,
-  not-among 14 beforePlate (endplateCauses s) (λ e. omega arith) tt,
+  in-turn beforePlates ofPlates (endplateCauses s ++ (14, t) ∷ []) tt,
+  not-among 14 beforePlates (endplateCauses s) (λ e. omega arith) tt,
 )
 
 flange-last : (s : BlindFlangeSheet) (t : Tests) → PlateLast (blindFlangeCauses s) t
 unfolding firstOf blindFlangeCauses flangeLimits boltsCauses
 flange-last s t = (
-  in-turn beforePlate (14 ∷ []) (blindFlangeCauses s ++ (14, t) ∷ []) tt,
-  not-among 14 beforePlate (blindFlangeCauses s) (λ e. omega arith) tt,
+  in-turn beforePlates ofPlates (blindFlangeCauses s ++ (14, t) ∷ []) tt,
+  not-among 14 beforePlates (blindFlangeCauses s) (λ e. omega arith) tt,
 )
 
 -- ---- the numbers

@@ -2,21 +2,23 @@
 use mathlib.Core.Path.{_≡_, refl, ap, _∙_}
 use mathlib.Core.Logic.{_≢_}
 use mathlib.Core.Bool.{Bool, true, false, cond}
-use mathlib.Core.List.{[], _∷_, _++_}
+use mathlib.Core.List.{_++_}
 use Prim.Native.Nat.{ℕ}
 use borrow.Author.Tests.{eqb-true, eqb-false, ne-eqb}
 use lib.Dec.{eqb}
-use Rattle.rules.specs.Causes.{any, firstCause, endplateCauses}
-use Rattle.rules.specs.Causes.{testsOf, firstOf, boltingOrder, flangeLimits, boltsCauses, blindFlangeCauses}
+use Rattle.limits.specs.Causes.{any, firstCause, testsOf, firstOf, ofNumbers, ofBolting, ofLoads, ofPlates}
+use Rattle.limits.specs.Limits.{endplateCauses, flangeLimits, boltingLimits}
+use Rattle.limits.specs.declared.EndplateSheet.{EndplateSheet}
+use Rattle.limits.specs.declared.BlindFlangeSheet.{BlindFlangeSheet}
+use Rattle.limits.specs.Laws.{in-turn}
+use Rattle.rules.specs.Loads.{gasketOf}
+use Rattle.rules.specs.FlangeCauses.{boltsCauses, blindFlangeCauses}
 use Rattle.rules.specs.Figures.{endplateFigures, blindFlangeFigures}
 use Rattle.rules.specs.Answer.{refusedOr, endplateSizing, blindFlangeSizing}
-use Rattle.rules.specs.declared.EndplateSheet.{EndplateSheet}
 use Rattle.rules.specs.declared.EndplateFigures.{EndplateFigures}
-use Rattle.rules.specs.declared.BlindFlangeSheet.{BlindFlangeSheet}
 use Rattle.rules.specs.declared.BlindFlangeFigures.{BlindFlangeFigures}
 use Rattle.rules.specs.declared.sizing.Sizing.{Sizing}
 use Rattle.rules.specs.declared.sizing.Sizing.the-variants.{Endplate, BlindFlange, Refused}
-use Rattle.rules.proofs.CheckingOrder.{in-turn}
 
 refused : (cause : ℕ) (sized : Sizing) → cause ≢ 0 → Refused cause ≡ refusedOr cause sized
 refused cause sized h = simp (ne-eqb cause 0 h)
@@ -46,23 +48,23 @@ module _ (s : EndplateSheet) where
   endplate-sized e q = rw (q, ← e)
 
 module _ (s : BlindFlangeSheet) where
-  -- the steps: 2 to 9, then 10 to 12, then 13
+  -- the steps: its numbers, its bolting, its loads
   abbrev limit : ℕ
   limit = firstCause (flangeLimits s)
 
   abbrev bolting : ℕ
-  bolting = firstOf boltingOrder (blindFlangeCauses s)
+  bolting = firstCause (boltingLimits s (gasketOf s .«reaction_diameter»))
 
   abbrev pub overloaded : Bool
   overloaded = any (testsOf (blindFlangeCauses s) 13)
 
   first :
       firstCause (blindFlangeCauses s) ≡ cond (eqb limit 0) (cond (eqb bolting 0) (cond overloaded 13 0) bolting) limit
-  unfolding firstOf flangeLimits boltsCauses blindFlangeCauses
+  unfolding firstOf flangeLimits boltingLimits boltsCauses blindFlangeCauses
   first =
-      let rest = boltingOrder ++ 13 ∷ 14 ∷ [] in
-      in-turn (2 ∷ 3 ∷ 4 ∷ 5 ∷ 6 ∷ 7 ∷ 8 ∷ 9 ∷ []) rest (blindFlangeCauses s) tt
-      ∙ ap (λ (k : ℕ). cond (eqb limit 0) k limit) (in-turn boltingOrder (13 ∷ 14 ∷ []) (blindFlangeCauses s) tt)
+      let rest = ofLoads ++ ofPlates in
+      in-turn ofNumbers (ofBolting ++ rest) (blindFlangeCauses s) tt
+      ∙ ap (λ (k : ℕ). cond (eqb limit 0) k limit) (in-turn ofBolting rest (blindFlangeCauses s) tt)
 
   pub flange-refused : {cause : ℕ} → cause ≡ limit → cause ≢ 0 → Refused cause ≡ blindFlangeSizing s
   unfolding blindFlangeSizing

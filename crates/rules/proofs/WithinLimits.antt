@@ -1,22 +1,23 @@
 -- What the numbers of a sheet keep to where none of the causes 2 to 12 applies. The bounds are wider than the limits, which
--- stand in Causes alone. Assumes nothing.
+-- stand in the crate limits alone. Assumes nothing.
 use mathlib.Core.Path.{_≡_}
 use mathlib.Core.Logic.{_≢_}
-use mathlib.Core.List.{[], _∷_, _++_}
+use mathlib.Core.List.{_++_}
 use Prim.Native.Nat.{ℕ, _*_, _^_, _≤_}
 use native.Mathlib.Nat.{mul-le-mul}
 use native.Mathlib.Omega.{arith}
 use borrow.Author.Tests.{ltb-false, eqb-false}
 use Rattle.tables.specs.DesignStress.{designStress}
-use Rattle.rules.specs.Endplate.{endplateStress}
+use Rattle.limits.specs.Stress.{endplateStress}
+use Rattle.limits.specs.Causes.{firstOf, firstCause, ofNumbers, ofBolting, ofLoads, ofPlates}
+use Rattle.limits.specs.Limits.{endplateCauses, flangeLimits, boltingLimits}
+use Rattle.limits.specs.declared.EndplateSheet.{EndplateSheet}
+use Rattle.limits.specs.declared.BlindFlangeSheet.{BlindFlangeSheet}
+use Rattle.limits.specs.Laws.{limit, none-of-both}
 use Rattle.rules.specs.Gasket.{effectiveWidth, reactionDiameter}
 use Rattle.rules.specs.Bolts.{boltArea}
-use Rattle.rules.specs.Causes.{firstOf, firstCause, checkingOrder, boltingOrder}
-use Rattle.rules.specs.Causes.{endplateCauses, flangeLimits, boltsCauses, blindFlangeCauses}
+use Rattle.rules.specs.FlangeCauses.{boltsCauses, blindFlangeCauses}
 use Rattle.rules.specs.Loads.{gasketOf}
-use Rattle.rules.specs.declared.EndplateSheet.{EndplateSheet}
-use Rattle.rules.specs.declared.BlindFlangeSheet.{BlindFlangeSheet}
-use Rattle.rules.proofs.CheckingOrder.{limit, none-of-both}
 use Rattle.rules.proofs.Bounds.{effectiveWidth-most}
 
 pub record EndplateWithin (s : EndplateSheet) : Type 0 where
@@ -28,7 +29,7 @@ pub record EndplateWithin (s : EndplateSheet) : Type 0 where
 pub endplate-within : (s : EndplateSheet) → firstCause (endplateCauses s) ≡ 0 → EndplateWithin s
 unfolding endplateCauses
 endplate-within s e =
-    let n = limit checkingOrder (endplateCauses s) tt e in
+    let n = limit (endplateCauses s) e in
     record {
       pressure = let h = n 3 tt 1 in omega (arith, ltb-false);
       stressed = eqb-false _ _ (n 5 tt 0);
@@ -50,7 +51,7 @@ pub record FlangeWithin (s : BlindFlangeSheet) : Type 0 where
 pub flange-within : (s : BlindFlangeSheet) → firstCause (flangeLimits s) ≡ 0 → FlangeWithin s
 unfolding flangeLimits
 flange-within s e =
-    let n = limit checkingOrder (flangeLimits s) tt e in
+    let n = limit (flangeLimits s) e in
     record {
       pressure = let h = n 3 tt 1 in omega (arith, ltb-false);
       stressed = eqb-false _ _ (n 5 tt 0);
@@ -78,10 +79,11 @@ area-most bolt root count hb hr hc =
     let root-most : root ≤ 128614 = omega (arith, mul-le-mul hb hb) in
     omega (arith, mul-le-mul hc root-most)
 
-pub bolting-within : (s : BlindFlangeSheet) → firstOf boltingOrder (blindFlangeCauses s) ≡ 0 → BoltingWithin s
-unfolding flangeLimits boltsCauses blindFlangeCauses gasketOf
+pub bolting-within :
+    (s : BlindFlangeSheet) → firstCause (boltingLimits s (reactionDiameter (s .od) (s .width))) ≡ 0 → BoltingWithin s
+unfolding boltingLimits
 bolting-within s e =
-    let n = limit boltingOrder (blindFlangeCauses s) tt e in
+    let n = limit (boltingLimits s (reactionDiameter (s .od) (s .width))) e in
     record {
       area =
           let bolt = n 10 tt 1 in
@@ -97,10 +99,10 @@ bolting-within s e =
       circle-most = let h = n 12 tt 1 in omega (arith, ltb-false);
     }
 
--- both, where none at all applies
+-- both, where no cause at all applies
 pub both-within : (s : BlindFlangeSheet) → firstCause (blindFlangeCauses s) ≡ 0 → FlangeWithin s × BoltingWithin s
-unfolding firstOf flangeLimits boltsCauses blindFlangeCauses
+unfolding firstOf flangeLimits boltingLimits boltsCauses blindFlangeCauses gasketOf
 both-within s e =
-    let rest = boltingOrder ++ 13 ∷ 14 ∷ [] in
-    let p = none-of-both (2 ∷ 3 ∷ 4 ∷ 5 ∷ 6 ∷ 7 ∷ 8 ∷ 9 ∷ []) rest (blindFlangeCauses s) tt e in
-    (flange-within s (p .0), bolting-within s (none-of-both boltingOrder (13 ∷ 14 ∷ []) (blindFlangeCauses s) tt (p .1) .0))
+    let rest = ofLoads ++ ofPlates in
+    let p = none-of-both ofNumbers (ofBolting ++ rest) (blindFlangeCauses s) tt e in
+    (flange-within s (p .0), bolting-within s (none-of-both ofBolting rest (blindFlangeCauses s) tt (p .1) .0))

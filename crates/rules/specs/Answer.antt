@@ -4,15 +4,17 @@ use mathlib.Core.Bool.{cond}
 use mathlib.Core.List.{List, [], _∷_, _++_}
 use mathlib.Core.Path.{_≡_}
 use lib.Dec.{eqb}
-use Rattle.rules.specs.Causes.{firstCause, endplateCauses, blindFlangeCauses}
-use Rattle.rules.specs.Figures.{endplateFigures, blindFlangeFigures}
 use Rattle.plates.specs.Plates.{smallestServing}
-use Rattle.rules.specs.declared.EndplateSheet.{EndplateSheet}
-use Rattle.rules.specs.declared.EndplateFigures.{EndplateFigures}
-use Rattle.rules.specs.declared.BlindFlangeSheet.{BlindFlangeSheet}
-use Rattle.rules.specs.declared.BlindFlangeFigures.{BlindFlangeFigures}
 use Rattle.plates.specs.declared.Choice.{Choice}
 use Rattle.plates.specs.declared.Choice.the-variants.{Plate, NoPlate}
+use Rattle.limits.specs.Causes.{firstCause}
+use Rattle.limits.specs.Limits.{endplateCauses}
+use Rattle.limits.specs.declared.EndplateSheet.{EndplateSheet}
+use Rattle.limits.specs.declared.BlindFlangeSheet.{BlindFlangeSheet}
+use Rattle.rules.specs.FlangeCauses.{blindFlangeCauses}
+use Rattle.rules.specs.Figures.{endplateFigures, blindFlangeFigures}
+use Rattle.rules.specs.declared.EndplateFigures.{EndplateFigures}
+use Rattle.rules.specs.declared.BlindFlangeFigures.{BlindFlangeFigures}
 use Rattle.rules.specs.declared.sizing.Sizing.{Sizing}
 use Rattle.rules.specs.declared.sizing.Sizing.the-variants.{Endplate as Sizing·Endplate}
 use Rattle.rules.specs.declared.sizing.Sizing.the-variants.{BlindFlange as Sizing·BlindFlange}

@@ -1,6 +1,6 @@
 -- Endplates (document 01; 004, 8.3.4 a, c and d). Stress in N/mm², P in thousandths of N/mm², d in tenths of a mm, T in
 -- hundredths.
-use Prim.Native.Nat.{ℕ, _*_, min, _<_}
+use Prim.Native.Nat.{ℕ, _*_, _<_}
 use mathlib.Core.Bool.{Bool, true, false, cond}
 use mathlib.Core.Logic.{_≢_}
 use native.Mathlib.Omega.{arith}
@@ -8,23 +8,7 @@ use lib.Dec.{eqb}
 use Rattle.root.specs.Least.{_≥_, Least}
 use Rattle.root.specs.Root.{leastRootOver}
 use Rattle.root.specs.Laws.{leastRootOver-least}
-use Rattle.tables.specs.DesignStress.{designStress}
-
--- form: 1, 2, 3 for a, c, d
-abbrev pub formA : ℕ
-formA = 1
-
-abbrev pub formC : ℕ
-formC = 2
-
-abbrev pub formD : ℕ
-formD = 3
-
--- F: the plate's stress; for c and d the lower of the plate's and the shell's. 0 where one of these has none
-unfoldable pub endplateStress : ℕ → ℕ → ℕ → ℕ → ℕ
-endplateStress form material shell temperature =
-    let plate = designStress material temperature in
-    cond (eqb form formA) plate (min plate (designStress shell temperature))
+use Rattle.limits.specs.Stress.{formA, formC, formD}
 
 -- what stands before F·T²: 40 for forms a and c, 30 for form d
 abbrev pub formFactor : ℕ → ℕ

@@ -3,14 +3,15 @@ use Prim.Native.Nat.{ℕ, _+_, _-_, _*_, _^_, _≤_}
 use mathlib.Core.Path.{_≡_}
 use Rattle.tables.specs.DesignStress.{designStress}
 use Rattle.root.specs.Least.{_≥_, Least}
-use Rattle.rules.specs.Endplate.{endplateStress, formFactor}
+use Rattle.limits.specs.Stress.{endplateStress}
+use Rattle.limits.specs.declared.EndplateSheet.{EndplateSheet}
+use Rattle.limits.specs.declared.BlindFlangeSheet.{BlindFlangeSheet}
+use Rattle.rules.specs.Endplate.{formFactor}
 use Rattle.rules.specs.Gasket.{reactionDiameter}
 use Rattle.rules.specs.Loads.{exactFlangeLoad, exactOperatingLoadOf, exactSeatingLoadOf}
 use Rattle.rules.specs.Bolts.{boltArea}
 use Rattle.rules.specs.Figures.{ambient}
 use Rattle.rules.specs.Answer.{Accepted}
-use Rattle.rules.specs.declared.EndplateSheet.{EndplateSheet}
-use Rattle.rules.specs.declared.BlindFlangeSheet.{BlindFlangeSheet}
 use Rattle.rules.specs.declared.Answer.{Answer}
 use Rattle.rules.specs.declared.Answer.the-variants.{Endplate, BlindFlange, Refused}
 

@@ -1,13 +1,14 @@
 -- The figures of a report (document 01), from the numbers of a sheet.
 use Prim.Native.Nat.{ℕ, _+_, max}
 use Rattle.tables.specs.DesignStress.{designStress}
-use Rattle.rules.specs.Endplate.{endplateStress, endplateThickness}
+use Rattle.limits.specs.Stress.{endplateStress}
+use Rattle.limits.specs.declared.EndplateSheet.{EndplateSheet}
+use Rattle.limits.specs.declared.BlindFlangeSheet.{BlindFlangeSheet}
+use Rattle.rules.specs.Endplate.{endplateThickness}
 use Rattle.rules.specs.Loads.{flangeLoad, gasketOf}
 use Rattle.rules.specs.Bolts.{boltArea}
 use Rattle.rules.specs.BlindFlange.{flangeThickness, edgeThickness}
-use Rattle.rules.specs.declared.EndplateSheet.{EndplateSheet}
 use Rattle.rules.specs.declared.EndplateFigures.{EndplateFigures}
-use Rattle.rules.specs.declared.BlindFlangeSheet.{BlindFlangeSheet}
 use Rattle.rules.specs.declared.BlindFlangeFigures.{BlindFlangeFigures}
 
 -- of an endplate; total is need plus allowance

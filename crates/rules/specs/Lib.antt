@@ -4,7 +4,7 @@ pub mod Gasket
 pub mod Loads
 pub mod Bolts
 pub mod BlindFlange
-pub mod Causes
+pub mod FlangeCauses
 pub mod Figures
 pub mod Answer
 pub mod Numbers

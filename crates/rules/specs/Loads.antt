@@ -5,8 +5,8 @@ use native.Mathlib.Omega.{arith}
 use Rattle.root.specs.Least.{_≥_, Least}
 use Rattle.root.specs.Root.{ceilDiv}
 use Rattle.root.specs.Laws.{ceilDiv-least}
+use Rattle.limits.specs.declared.BlindFlangeSheet.{BlindFlangeSheet}
 use Rattle.rules.specs.Gasket.{effectiveWidth, reactionDiameter}
-use Rattle.rules.specs.declared.BlindFlangeSheet.{BlindFlangeSheet}
 use Rattle.rules.specs.declared.gasket.Gasket.{Gasket}
 
 -- ---- exact: fractions multiplied out to whole numbers

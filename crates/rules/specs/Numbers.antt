@@ -4,12 +4,14 @@ use Prim.Native.Nat.{ℕ}
 use mathlib.Core.Bool.{not, cond}
 use mathlib.Core.List.{List, [], _∷_, _++_}
 use lib.Dec.{eqb}
-use Rattle.rules.specs.Causes.{Tests, Causes, firstCause, endplateCauses, blindFlangeCauses}
-use Rattle.rules.specs.Figures.{endplateFigures, blindFlangeFigures}
 use Rattle.plates.specs.Plates.{anyServes, smallestServing, plateOf}
+use Rattle.limits.specs.Causes.{Tests, Causes, firstCause}
+use Rattle.limits.specs.Limits.{endplateCauses}
+use Rattle.limits.specs.declared.EndplateSheet.{EndplateSheet}
+use Rattle.limits.specs.declared.BlindFlangeSheet.{BlindFlangeSheet}
+use Rattle.rules.specs.FlangeCauses.{blindFlangeCauses}
+use Rattle.rules.specs.Figures.{endplateFigures, blindFlangeFigures}
 use Rattle.rules.specs.Answer.{endplateList, blindFlangeList}
-use Rattle.rules.specs.declared.EndplateSheet.{EndplateSheet}
-use Rattle.rules.specs.declared.BlindFlangeSheet.{BlindFlangeSheet}
 
 -- 14: no listed plate serves
 abbrev pub noPlateServes : ℕ → List ℕ → Tests

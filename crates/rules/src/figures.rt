@@ -7,12 +7,13 @@ use crate::bolts::bolt_area;
 use crate::compare::greater;
 use crate::gasket::Gasket;
 use crate::loads::flange_load;
-use crate::stress::endplate_stress;
 use crate::thickness::edge_thickness;
 use crate::thickness::endplate_thickness;
 use crate::thickness::flange_thickness;
 ghost use mathlib.Core.Path.{_≡_};
-ghost use Rattle.rules.specs.Causes.{firstCause, endplateCauses, blindFlangeCauses};
+ghost use Rattle.limits.specs.Causes.{firstCause};
+ghost use Rattle.limits.specs.Limits.{endplateCauses};
+ghost use Rattle.rules.specs.FlangeCauses.{blindFlangeCauses};
 ghost use Rattle.rules.specs.Figures.{endplateFigures, blindFlangeFigures};
 ghost use Rattle.rules.specs.Loads.{gasketOf};
 
@@ -23,7 +24,7 @@ pub(crate) fn endplate_figures(s: EndplateSheet) -> EndplateFigures
     requires { ⌜ firstCause (endplateCauses s) ≡ 0 ⌝ }
     ensures { λ r. ⌜ r ≡ endplateFigures s ⌝ }
 {
-    let stress = endplate_stress(s.form, s.material, s.shell, s.temperature);
+    let stress = limits::endplate_stress(s.form, s.material, s.shell, s.temperature);
     let thickness = endplate_thickness(s.form, stress, s.pressure, s.diameter);
     EndplateFigures {
         design_stress: stress as u64,

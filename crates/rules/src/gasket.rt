@@ -4,7 +4,8 @@ use crate::loads::operating_load;
 use crate::loads::seating_load;
 ghost use Prim.Native.Nat.{_-_, _/_};
 ghost use mathlib.Core.Path.{_≡_};
-ghost use Rattle.rules.specs.Causes.{firstCause, flangeLimits};
+ghost use Rattle.limits.specs.Causes.{firstCause};
+ghost use Rattle.limits.specs.Limits.{flangeLimits};
 ghost use Rattle.rules.specs.Gasket.{effectiveWidth};
 ghost use Rattle.rules.specs.Loads.{gasketOf};
 

@@ -6,78 +6,21 @@ ghost use Rattle.rules.specs.Exact.{EndplateExact, BlindFlangeExact};
 ghost use Rattle.rules.specs.Numbers.{endplateCause, endplateFigure, endplateReport};
 ghost use Rattle.rules.specs.Numbers.{blindFlangeCause, blindFlangeFigure, blindFlangeReport};
 ghost use Rattle.plates.specs.Plates.{platesIn};
+pub use limits::BlindFlangeSheet;
+pub use limits::EndplateSheet;
 
 mod bolts;
-mod causes;
 mod compare;
 mod figures;
 mod gasket;
 mod loads;
 mod sizing;
-mod stress;
 mod thickness;
 
-use plates::smallest_serving;
-use plates::smallest_serving_from_bytes;
 use sizing::blind_flange_sizing;
 use sizing::endplate_sizing;
-use sizing::total_of;
-use sizing::with_plate;
-
-// Forms a and d of an endplate; c is 2.
-pub(crate) const FORM_A: u32 = 1;
-
-pub(crate) const FORM_D: u32 = 3;
-
-// The numbers of an endplate's sheet, in the order of its lines.
-pub struct EndplateSheet {
-    // form: 1, 2, 3 for a, c, d.
-    pub form: u32,
-    // material: that of the plate, 1 to 11.
-    pub material: u32,
-    // shell: the material of the cylinder; 0 for form a.
-    pub shell: u32,
-    // temp: °C.
-    pub temperature: u32,
-    // pressure, P: thousandths of N/mm².
-    pub pressure: u32,
-    // dia, d: tenths of a mm.
-    pub diameter: u32,
-    // allow: hundredths of a mm.
-    pub allowance: u32,
-}
-
-// The numbers of a blind flange's sheet, in the order of its lines.
-pub struct BlindFlangeSheet {
-    // material: 1 to 11.
-    pub material: u32,
-    // temp: °C.
-    pub temperature: u32,
-    // pressure, P: thousandths of N/mm².
-    pub pressure: u32,
-    // allow: hundredths of a mm.
-    pub allowance: u32,
-    // od: outside contact diameter of the gasket, tenths of a mm.
-    pub od: u32,
-    // width, n: contact width of the gasket, tenths of a mm.
-    pub width: u32,
-    // m: gasket factor, hundredths.
-    pub m: u32,
-    // y: gasket seating stress, tenths of N/mm².
-    pub y: u32,
-    // circle, C: bolt circle, tenths of a mm.
-    pub circle: u32,
-    // bolt: bolt diameter, mm.
-    pub bolt: u32,
-    // root: root area of one bolt, tenths of mm².
-    pub root: u32,
-    // count: number of bolts.
-    pub count: u32,
-    // sa: bolt stress cold, N/mm².
-    pub sa: u32,
-    // sb: bolt stress at design temperature, N/mm².
-    pub sb: u32,
-}
+use sizing::from_bytes;
+use sizing::from_plates;
 
 // The figures of an endplate's report but for the plate.
 pub struct EndplateFigures {
@@ -137,9 +80,7 @@ pub fn endplate(s: EndplateSheet, plates: &[u32]) -> Answer
         ⌜ (causeOf r ≡ endplateCause s ps) × (figureOf r ≡ endplateFigure s ps) × (reportOf r ≡ endplateReport s ps) ⌝ }
     ensures exact { λ r. ⌜ EndplateExact s r ⌝ }
 {
-    let sizing = endplate_sizing(s);
-    let choice = smallest_serving(total_of(sizing), plates);
-    with_plate(sizing, choice)
+    from_plates(endplate_sizing(s), plates)
 }
 
 // The size of a blind flange from a list of plates, or the first cause to refuse it.
@@ -152,9 +93,7 @@ pub fn blind_flange(s: BlindFlangeSheet, plates: &[u32]) -> Answer
         × (reportOf r ≡ blindFlangeReport s ps) ⌝ }
     ensures exact { λ r. ⌜ BlindFlangeExact s r ⌝ }
 {
-    let sizing = blind_flange_sizing(s);
-    let choice = smallest_serving(total_of(sizing), plates);
-    with_plate(sizing, choice)
+    from_plates(blind_flange_sizing(s), plates)
 }
 
 // The same from C's plates: bytes, four to a plate, lowest first.
@@ -165,9 +104,7 @@ pub fn endplate_from_bytes(s: EndplateSheet, plates: &[u8]) -> Answer
         ⌜ (causeOf r ≡ endplateCause s ps) × (figureOf r ≡ endplateFigure s ps) × (reportOf r ≡ endplateReport s ps) ⌝ }
     ensures exact { λ r. ⌜ EndplateExact s r ⌝ }
 {
-    let sizing = endplate_sizing(s);
-    let choice = smallest_serving_from_bytes(total_of(sizing), plates);
-    with_plate(sizing, choice)
+    from_bytes(endplate_sizing(s), plates)
 }
 
 // The same of a blind flange.
@@ -180,7 +117,5 @@ pub fn blind_flange_from_bytes(s: BlindFlangeSheet, plates: &[u8]) -> Answer
         × (reportOf r ≡ blindFlangeReport s ps) ⌝ }
     ensures exact { λ r. ⌜ BlindFlangeExact s r ⌝ }
 {
-    let sizing = blind_flange_sizing(s);
-    let choice = smallest_serving_from_bytes(total_of(sizing), plates);
-    with_plate(sizing, choice)
+    from_bytes(blind_flange_sizing(s), plates)
 }

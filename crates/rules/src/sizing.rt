@@ -5,14 +5,19 @@ use crate::BlindFlangeSheet;
 use crate::EndplateFigures;
 use crate::EndplateSheet;
 use crate::bolts;
-use crate::causes;
-use crate::causes::BOLTS_OVERLOADED;
-use crate::causes::NO_PLATE;
 use crate::figures;
 use crate::gasket;
 use plates::Choice;
+use plates::smallest_serving;
+use plates::smallest_serving_from_bytes;
 ghost use mathlib.Core.Path.{_≡_};
-ghost use Rattle.rules.specs.Answer.{endplateSizing, blindFlangeSizing, totalOf, withPlate};
+ghost use Rattle.plates.specs.Plates.{platesIn};
+ghost use Rattle.rules.specs.Answer.{endplateSizing, blindFlangeSizing, totalOf, withPlate, fromPlates};
+
+// The causes that are worked from loads and total: the bolts do not carry; no listed plate serves.
+const BOLTS_OVERLOADED: u32 = 13;
+
+const NO_PLATE: u32 = 14;
 
 // The figures of a part before its plate is chosen, or the first cause to refuse it.
 pub(crate) enum Sizing {
@@ -24,7 +29,7 @@ pub(crate) enum Sizing {
 pub(crate) fn endplate_sizing(s: EndplateSheet) -> Sizing
     ensures { λ r. ⌜ r ≡ endplateSizing s ⌝ }
 {
-    let cause = causes::endplate_cause(s);
+    let cause = limits::endplate_cause(s);
     if cause != 0 {
         return Sizing::Refused(cause);
     }
@@ -35,12 +40,12 @@ pub(crate) fn endplate_sizing(s: EndplateSheet) -> Sizing
 pub(crate) fn blind_flange_sizing(s: BlindFlangeSheet) -> Sizing
     ensures { λ r. ⌜ r ≡ blindFlangeSizing s ⌝ }
 {
-    let limit = causes::flange_limits(s);
+    let limit = limits::flange_limits(s);
     if limit != 0 {
         return Sizing::Refused(limit);
     }
     let gasket = gasket::gasket_of(s);
-    let bolting = causes::bolting_limits(s, gasket);
+    let bolting = limits::bolting_limits(s, gasket.reaction_diameter);
     if bolting != 0 {
         return Sizing::Refused(bolting);
     }
@@ -55,7 +60,7 @@ pub(crate) fn blind_flange_sizing(s: BlindFlangeSheet) -> Sizing
 }
 
 // total, in hundredths of a mm; 0 for a part that is refused.
-pub(crate) fn total_of(sizing: Sizing) -> u64
+fn total_of(sizing: Sizing) -> u64
     ensures { λ r. ⌜ r ≡ totalOf sizing ⌝ }
 {
     match sizing {
@@ -90,7 +95,7 @@ fn blind_flange_from(figures: BlindFlangeFigures, choice: Choice) -> Answer
 }
 
 // The answer with the choice that was made for the part's total.
-pub(crate) fn with_plate(sizing: Sizing, choice: Choice) -> Answer
+fn with_plate(sizing: Sizing, choice: Choice) -> Answer
     ensures { λ r. ⌜ r ≡ withPlate sizing choice ⌝ }
 {
     match sizing {
@@ -98,4 +103,20 @@ pub(crate) fn with_plate(sizing: Sizing, choice: Choice) -> Answer
         Sizing::BlindFlange(figures) => blind_flange_from(figures, choice),
         Sizing::Refused(cause) => Answer::Refused { cause, figure: 0 },
     }
+}
+
+// The answer with the smallest serving plate of a list.
+pub(crate) fn from_plates(sizing: Sizing, plates: &[u32]) -> Answer
+    ensures { λ r. ⌜ r ≡ fromPlates sizing (now (plates .entry)) ⌝ }
+{
+    let choice = smallest_serving(total_of(sizing), plates);
+    with_plate(sizing, choice)
+}
+
+// The same of C's list.
+pub(crate) fn from_bytes(sizing: Sizing, bytes: &[u8]) -> Answer
+    ensures { λ r. ⌜ r ≡ fromPlates sizing (platesIn (now (bytes .entry))) ⌝ }
+{
+    let choice = smallest_serving_from_bytes(total_of(sizing), bytes);
+    with_plate(sizing, choice)
 }

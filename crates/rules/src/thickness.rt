@@ -1,10 +1,12 @@
 // Thicknesses, in hundredths of a mm. The bounds asked for are wider than the limits: with them the products fit.
-use crate::FORM_D;
 use crate::compare::greater;
 ghost use mathlib.Core.Path.{_≡_};
 ghost use Prim.Native.Nat.{_≤_, _+_, _^_};
 ghost use Rattle.rules.specs.Endplate.{endplateThickness};
 ghost use Rattle.rules.specs.BlindFlange.{flangeThickness, edgeUnder, edgeThickness};
+
+// Form d of an endplate.
+const FORM_D: u32 = 3;
 
 // The factor of a bolt load and its lever C − G.
 const MOMENT: u64 = 954500;

@@ -6,8 +6,8 @@ use lib.ListN.{getD}
 use Rattle.rules.specs.Answer.{endplateAnswer, blindFlangeAnswer}
 use Rattle.rules.specs.Numbers.{endplateCause, endplateFigure, endplateReport}
 use Rattle.rules.specs.Numbers.{blindFlangeCause, blindFlangeFigure, blindFlangeReport}
-use Rattle.rules.specs.declared.EndplateSheet.{EndplateSheet}
-use Rattle.rules.specs.declared.BlindFlangeSheet.{BlindFlangeSheet}
+use Rattle.limits.specs.declared.EndplateSheet.{EndplateSheet}
+use Rattle.limits.specs.declared.BlindFlangeSheet.{BlindFlangeSheet}
 use Rattle.rules.specs.declared.Answer.{Answer}
 use Rattle.rules.specs.declared.Answer.the-variants.{Refused}
 use Rattle.text.specs.Ascii.{ascii, lineFeed}

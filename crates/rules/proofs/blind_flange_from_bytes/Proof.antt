@@ -1,26 +1,14 @@
 -- `blind_flange_from_bytes` meets its contract. Assumes nothing.
 use borrow.Author.Needs.{needs}
 use Rattle.plates.specs.Plates.{platesIn}
-use Rattle.rules.proofs.Answers.{chosen, flange-promised}
+use Rattle.rules.proofs.Answers.{flange-promised}
 use Rattle.rules.proofs.blind_flange_from_bytes.Statement.{statement}
 use Rattle.rules.proofs.blind_flange_from_bytes.Tie as tie
 
 returns : tie.Need-returns
 returns c =
-    let p = c .before in
-    let t = p .before in
-    let z = t .before in
-    let a = z .before .before .args in
-    flange-promised (a .s) (platesIn (a .plates .now))
-    (chosen _ (z .blind-flange-sizing .ensures) (t .total-of .ensures)
-    (p .smallest-serving-from-bytes .ensures .0) (c .with-plate .ensures))
+    let a = c .before .before .before .args in
+    flange-promised (a .s) (platesIn (a .plates .now)) (rw (← c .before .blind-flange-sizing .ensures) (c .from-bytes .ensures))
 
 pub blind-flange-from-bytes-spec : {M : Type 1} → statement M
-blind-flange-from-bytes-spec =
-    tie.close
-    (tie.spec
-    (λ c κs. search needs)
-    (λ c κs. search needs)
-    (λ c κs. search needs)
-    (λ c κs. search needs)
-    returns)
+blind-flange-from-bytes-spec = tie.close (tie.spec (λ c κs. search needs) (λ c κs. search needs) returns)

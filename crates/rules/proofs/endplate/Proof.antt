@@ -1,25 +1,13 @@
 -- `endplate` meets its contract. Assumes nothing.
 use borrow.Author.Needs.{needs}
-use Rattle.rules.proofs.Answers.{chosen, endplate-promised}
+use Rattle.rules.proofs.Answers.{endplate-promised}
 use Rattle.rules.proofs.endplate.Statement.{statement}
 use Rattle.rules.proofs.endplate.Tie as tie
 
 returns : tie.Need-returns
 returns c =
-    let p = c .before in
-    let t = p .before in
-    let z = t .before in
-    let a = z .before .before .args in
-    endplate-promised (a .s) (a .plates .now)
-    (chosen _ (z .endplate-sizing .ensures) (t .total-of .ensures)
-    (p .smallest-serving .ensures .0) (c .with-plate .ensures))
+    let a = c .before .before .before .args in
+    endplate-promised (a .s) (a .plates .now) (rw (← c .before .endplate-sizing .ensures) (c .from-plates .ensures))
 
 pub endplate-spec : {M : Type 1} → statement M
-endplate-spec =
-    tie.close
-    (tie.spec
-    (λ c κs. search needs)
-    (λ c κs. search needs)
-    (λ c κs. search needs)
-    (λ c κs. search needs)
-    returns)
+endplate-spec = tie.close (tie.spec (λ c κs. search needs) (λ c κs. search needs) returns)

@@ -3,7 +3,8 @@ use native.Mathlib.Nat.{mul-le-mul}
 use native.Mathlib.Omega.{arith}
 use borrow.Author.Needs.{needs}
 use borrow.Author.Tests.{eq-eqb, ne-eqb}
-use Rattle.rules.specs.Endplate.{formD, endplateThickness}
+use Rattle.limits.specs.Stress.{formD}
+use Rattle.rules.specs.Endplate.{endplateThickness}
 use Rattle.rules.proofs.thickness.endplate_thickness.Statement.{statement}
 use Rattle.rules.proofs.thickness.endplate_thickness.Tie as tie
 

@@ -3,18 +3,16 @@
 // `|` stands where `||` would do: the answer is then the definition's own expression.
 use crate::BlindFlangeSheet;
 use crate::EndplateSheet;
-use crate::FORM_A;
-use crate::gasket::Gasket;
+use crate::stress::FORM_A;
 use crate::stress::endplate_stress;
 ghost use mathlib.Core.Path.{_≡_};
 ghost use mathlib.Core.Bool.{cond};
 ghost use lib.Dec.{eqb};
-ghost use Rattle.rules.specs.Causes.{any, firstOf, firstCause};
-ghost use Rattle.rules.specs.Causes.{endplateCauses, flangeLimits, blindFlangeCauses, boltingOrder};
-ghost use Rattle.rules.specs.Causes.{materialRefused, shellRefused, formRefused, pressureRefused};
-ghost use Rattle.rules.specs.Causes.{temperatureRefused, noStress, diameterRefused, allowanceRefused};
-ghost use Rattle.rules.specs.Causes.{widthRefused, gasketRefused, boltsRefused, boltStressRefused, circleRefused};
-ghost use Rattle.rules.specs.Loads.{gasketOf};
+ghost use Rattle.limits.specs.Causes.{any, firstCause};
+ghost use Rattle.limits.specs.Limits.{endplateCauses, flangeLimits, boltingLimits};
+ghost use Rattle.limits.specs.Limits.{materialRefused, shellRefused, formRefused, pressureRefused};
+ghost use Rattle.limits.specs.Limits.{temperatureRefused, noStress, diameterRefused, allowanceRefused};
+ghost use Rattle.limits.specs.Limits.{widthRefused, gasketRefused, boltsRefused, boltStressRefused, circleRefused};
 
 const MATERIAL: u32 = 2;
 
@@ -37,12 +35,6 @@ const BOLTS: u32 = 10;
 const BOLT_STRESS: u32 = 11;
 
 const CIRCLE: u32 = 12;
-
-// The bolts do not carry.
-pub(crate) const BOLTS_OVERLOADED: u32 = 13;
-
-// No listed plate serves.
-pub(crate) const NO_PLATE: u32 = 14;
 
 fn material_refused(material: u32) -> bool
     ensures { λ r. ⌜ r ≡ any (materialRefused material) ⌝ }
@@ -141,7 +133,7 @@ fn or_cause(found: u32, number: u32, applies: bool) -> u32
 }
 
 // The first cause that applies to an endplate but for 14, in checking order; 0 where none does.
-pub(crate) fn endplate_cause(s: EndplateSheet) -> u32
+pub fn endplate_cause(s: EndplateSheet) -> u32
     ensures { λ r. ⌜ r ≡ firstCause (endplateCauses s) ⌝ }
 {
     let stress = endplate_stress(s.form, s.material, s.shell, s.temperature);
@@ -162,7 +154,7 @@ pub(crate) fn endplate_cause(s: EndplateSheet) -> u32
 }
 
 // The first of the causes 2 to 9 that applies to a blind flange, in checking order; 0 where none does.
-pub(crate) fn flange_limits(s: BlindFlangeSheet) -> u32
+pub fn flange_limits(s: BlindFlangeSheet) -> u32
     ensures { λ r. ⌜ r ≡ firstCause (flangeLimits s) ⌝ }
 {
     let stress = tables::design_stress(s.material, s.temperature);
@@ -184,14 +176,13 @@ pub(crate) fn flange_limits(s: BlindFlangeSheet) -> u32
     or_cause(k, GASKET, gasket)
 }
 
-// The first of the causes 10 to 12, once the gasket is worked.
-pub(crate) fn bolting_limits(s: BlindFlangeSheet, gasket: Gasket) -> u32
-    requires { ⌜ gasket ≡ gasketOf s ⌝ }
-    ensures { λ r. ⌜ r ≡ firstOf boltingOrder (blindFlangeCauses s) ⌝ }
+// The first of the causes 10 to 12 that applies, G being that of the gasket.
+pub fn bolting_limits(s: BlindFlangeSheet, g: u32) -> u32
+    ensures { λ r. ⌜ r ≡ firstCause (boltingLimits s g) ⌝ }
 {
     let bolts = bolts_refused(s.bolt, s.root, s.count);
     let bolt_stress = bolt_stress_refused(s.sa, s.sb);
-    let circle = circle_refused(s.circle, s.od, s.bolt, gasket.reaction_diameter);
+    let circle = circle_refused(s.circle, s.od, s.bolt, g);
     let k = or_cause(0, BOLTS, bolts);
     let k = or_cause(k, BOLT_STRESS, bolt_stress);
     or_cause(k, CIRCLE, circle)

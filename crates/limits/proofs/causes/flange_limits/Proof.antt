@@ -1,11 +1,11 @@
 -- `causes::flange_limits` meets its contract: cause by cause in checking order. Assumes nothing.
-use mathlib.Core.List.{[], _∷_}
 use mathlib.Core.Path.{refl, _∙_}
 use borrow.Author.Needs.{needs}
-use Rattle.rules.specs.Causes.{firstOf, noStress, flangeLimits}
-use Rattle.rules.proofs.CheckingOrder.{in-order, next-cause, via}
-use Rattle.rules.proofs.causes.flange_limits.Statement.{statement}
-use Rattle.rules.proofs.causes.flange_limits.Tie as tie
+use Rattle.limits.specs.Causes.{firstOf, ofNumbers}
+use Rattle.limits.specs.Limits.{noStress, flangeLimits}
+use Rattle.limits.proofs.CauseByCause.{in-order, next-cause, via}
+use Rattle.limits.proofs.causes.flange_limits.Statement.{statement}
+use Rattle.limits.proofs.causes.flange_limits.Tie as tie
 
 returns : tie.Need-returns
 unfolding firstOf flangeLimits
@@ -35,7 +35,7 @@ returns c =
     let k6 = next-cause 7 (r6 .or-cause6 .ensures) k5 (allowance .allowance-refused .ensures) in
     let k7 = next-cause 8 (r7 .or-cause7 .ensures) k6 (width .width-refused .ensures) in
     let k8 = next-cause 9 (c .or-cause8 .ensures) k7 (gasket .gasket-refused .ensures) in
-    k8 ∙ in-order (2 ∷ 3 ∷ 4 ∷ 5 ∷ 6 ∷ 7 ∷ 8 ∷ 9 ∷ []) (flangeLimits (stress .before .args .s)) tt
+    k8 ∙ in-order ofNumbers (flangeLimits (stress .before .args .s)) tt
 
 pub flange-limits-spec : {M : Type 1} → statement M
 flange-limits-spec =

@@ -3,12 +3,12 @@ use mathlib.Core.Path.{_≡_, refl, _∙_}
 use mathlib.Core.Bool.{Bool, _||_}
 use mathlib.Core.List.{[], _∷_, _++_}
 use borrow.Author.Needs.{needs}
-use Rattle.rules.specs.Endplate.{endplateStress}
-use Rattle.rules.specs.Causes.{Tests, any, firstOf, endplateCauses}
-use Rattle.rules.specs.Causes.{formRefused, materialRefused, shellRefused, noStress}
-use Rattle.rules.proofs.CheckingOrder.{in-order, next-cause, via, any-append}
-use Rattle.rules.proofs.causes.endplate_cause.Statement.{statement}
-use Rattle.rules.proofs.causes.endplate_cause.Tie as tie
+use Rattle.limits.specs.Stress.{endplateStress}
+use Rattle.limits.specs.Causes.{Tests, any, firstOf}
+use Rattle.limits.specs.Limits.{formRefused, materialRefused, shellRefused, noStress, endplateCauses}
+use Rattle.limits.proofs.CauseByCause.{in-order, next-cause, via, any-append}
+use Rattle.limits.proofs.causes.endplate_cause.Statement.{statement}
+use Rattle.limits.proofs.causes.endplate_cause.Tie as tie
 
 -- the three tests of cause 2
 three :

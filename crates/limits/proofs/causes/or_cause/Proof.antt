@@ -1,7 +1,7 @@
 -- `causes::or_cause` meets its contract. Assumes nothing.
-use Rattle.rules.proofs.Rules.{decide}
-use Rattle.rules.proofs.causes.or_cause.Statement.{statement}
-use Rattle.rules.proofs.causes.or_cause.Tie as tie
+use Rattle.limits.proofs.TestsDecide.{decide}
+use Rattle.limits.proofs.causes.or_cause.Statement.{statement}
+use Rattle.limits.proofs.causes.or_cause.Tie as tie
 
 pub or-cause-spec : {M : Type 1} → statement M
 or-cause-spec =

@@ -1,15 +1,14 @@
 -- `causes::bolting_limits` meets its contract: cause by cause in checking order. Assumes nothing.
-use mathlib.Core.Path.{refl, ap, _∙_}
+use mathlib.Core.Path.{refl, _∙_}
 use borrow.Author.Needs.{needs}
-use Rattle.rules.specs.Causes.{any, boltingOrder, boltsRefused, circleRefused}
-use Rattle.rules.specs.Causes.{flangeLimits, boltsCauses, blindFlangeCauses}
-use Rattle.rules.specs.declared.gasket.Gasket.{Gasket}
-use Rattle.rules.proofs.CheckingOrder.{in-order, next-cause, via}
-use Rattle.rules.proofs.causes.bolting_limits.Statement.{statement}
-use Rattle.rules.proofs.causes.bolting_limits.Tie as tie
+use Rattle.limits.specs.Causes.{any, firstOf, ofBolting}
+use Rattle.limits.specs.Limits.{boltsRefused, boltingLimits}
+use Rattle.limits.proofs.CauseByCause.{in-order, next-cause}
+use Rattle.limits.proofs.causes.bolting_limits.Statement.{statement}
+use Rattle.limits.proofs.causes.bolting_limits.Tie as tie
 
 returns : tie.Need-returns
-unfolding flangeLimits boltsCauses blindFlangeCauses
+unfolding firstOf boltingLimits
 returns c =
     let r2 = c .before in
     let r1 = r2 .before in
@@ -20,10 +19,8 @@ returns c =
     let bolted = any (boltsRefused (a .bolt) (a .root) (a .count)) in
     let k1 = next-cause 10 {before = 0} {b = bolted} (r1 .or-cause .ensures) refl (bolts .bolts-refused .ensures) in
     let k2 = next-cause 11 (r2 .or-cause2 .ensures) k1 (stresses .bolt-stress-refused .ensures) in
-    let test = circleRefused (a .circle) (a .od) (a .bolt) in
-    let G = ap (λ (g : Gasket). g .«reaction_diameter») (bolts .before .pre) in
-    let k3 = next-cause 12 (c .or-cause3 .ensures) k2 (via test (circle .circle-refused .ensures) G) in
-    k3 ∙ in-order boltingOrder (blindFlangeCauses a) tt
+    let k3 = next-cause 12 (c .or-cause3 .ensures) k2 (circle .circle-refused .ensures) in
+    k3 ∙ in-order ofBolting (boltingLimits a (bolts .before .args .g)) tt
 
 pub bolting-limits-spec : {M : Type 1} → statement M
 bolting-limits-spec =

@@ -2,9 +2,9 @@
 use native.Mathlib.Nat.{mul-le-mul}
 use native.Mathlib.Omega.{arith}
 use borrow.Author.Needs.{needs}
-use Rattle.rules.proofs.Rules.{decide}
-use Rattle.rules.proofs.causes.bolts_refused.Statement.{statement}
-use Rattle.rules.proofs.causes.bolts_refused.Tie as tie
+use Rattle.limits.proofs.TestsDecide.{decide}
+use Rattle.limits.proofs.causes.bolts_refused.Statement.{statement}
+use Rattle.limits.proofs.causes.bolts_refused.Tie as tie
 
 returns-3 : tie.Need-returns-3
 returns-3 c = search decide

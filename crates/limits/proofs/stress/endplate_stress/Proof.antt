@@ -2,9 +2,9 @@
 use native.Mathlib.Omega.{arith}
 use borrow.Author.Needs.{needs}
 use borrow.Author.Tests.{ne-eqb}
-use Rattle.rules.specs.Endplate.{endplateStress}
-use Rattle.rules.proofs.stress.endplate_stress.Statement.{statement}
-use Rattle.rules.proofs.stress.endplate_stress.Tie as tie
+use Rattle.limits.specs.Stress.{endplateStress}
+use Rattle.limits.proofs.stress.endplate_stress.Statement.{statement}
+use Rattle.limits.proofs.stress.endplate_stress.Tie as tie
 
 returns : tie.Need-returns
 unfolding endplateStress

@@ -1,25 +1,16 @@
--- Causes of a refusal (document 01): the tests of each, and the order in which they are checked. 2 to 13 of both
--- calculations are here; 14, no plate, is in Numbers.
+-- The limits that the numbers of a sheet keep to (document 01): causes 2 to 12 of both parts. 13, the bolts do not carry, and
+-- 14, no plate, are worked from the loads and the total, in the crate rules.
 use Prim.Native.Nat.{ℕ, _+_, _*_}
-use mathlib.Core.Bool.{Bool, false, _||_, not, Bool·beq, cond}
-use mathlib.Core.List.{List, [], _∷_, _++_, foldl}
+use mathlib.Core.Bool.{not, Bool·beq}
+use mathlib.Core.List.{[], _∷_, _++_}
 use lib.Dec.{ltb, eqb}
 use Rattle.tables.specs.DesignStress.{designStress}
-use Rattle.rules.specs.Endplate.{formA, endplateStress}
-use Rattle.rules.specs.Loads.{gasketOf}
-use Rattle.rules.specs.Bolts.{boltsSufficient, boltArea}
-use Rattle.rules.specs.declared.EndplateSheet.{EndplateSheet}
-use Rattle.rules.specs.declared.BlindFlangeSheet.{BlindFlangeSheet}
-use Rattle.rules.specs.declared.gasket.Gasket.{Gasket}
+use Rattle.limits.specs.Causes.{Tests, Causes}
+use Rattle.limits.specs.Stress.{formA, endplateStress}
+use Rattle.limits.specs.declared.EndplateSheet.{EndplateSheet}
+use Rattle.limits.specs.declared.BlindFlangeSheet.{BlindFlangeSheet}
 
--- ---- the tests of each cause, over the values that it is about; a cause applies where any of its tests holds
-
-abbrev pub Tests : Type 0
-Tests = List Bool
-
--- one of the tests holds
-abbrev pub any : Tests → Bool
-any tests = foldl _||_ false tests
+-- ---- the tests of each cause, over the values that it is about
 
 -- 2: outside 1 to 11, or a tube
 abbrev pub materialRefused : ℕ → Tests
@@ -81,33 +72,6 @@ boltStressRefused sa sb = eqb sa 0 ∷ ltb 400 sa ∷ eqb sb 0 ∷ ltb 400 sb �
 abbrev pub circleRefused : ℕ → ℕ → ℕ → ℕ → Tests
 circleRefused C od bolt G = ltb C (od + 10 * bolt) ∷ ltb (3 * G) (2 * C) ∷ []
 
--- 13: the bolts, of area A, do not carry the gasket's loads
-abbrev pub boltsOverloaded : Gasket → ℕ → ℕ → ℕ → Tests
-boltsOverloaded gasket A sa sb =
-    not (boltsSufficient (gasket .«operating_load») (gasket .«seating_load») A sa sb) ∷ []
-
--- ---- causes, each a number and its tests
-
-abbrev pub Causes : Type 0
-Causes = List (ℕ × Tests)
-
--- the tests of the cause with this number, wherever it stands; none where the list has no such cause
-abbrev pub testsOf : Causes → ℕ → Tests
-testsOf [] number = []
-testsOf (c ∷ cs) number = cond (eqb (c .0) number) (c .1) (testsOf cs number)
-
--- the first of these numbers whose cause applies, 0 where none does
-unfoldable pub firstOf : List ℕ → Causes → ℕ
-firstOf [] causes = 0
-firstOf (number ∷ numbers) causes = cond (any (testsOf causes number)) number (firstOf numbers causes)
-
--- checking order: of several causes that apply, the first in this order answers
-abbrev pub checkingOrder : List ℕ
-checkingOrder = 2 ∷ 3 ∷ 4 ∷ 5 ∷ 6 ∷ 7 ∷ 8 ∷ 9 ∷ 10 ∷ 11 ∷ 12 ∷ 13 ∷ 14 ∷ []
-
-abbrev pub firstCause : Causes → ℕ
-firstCause causes = firstOf checkingOrder causes
-
 -- ---- of an endplate
 
 unfoldable pub endplateCauses : EndplateSheet → Causes
@@ -135,19 +99,15 @@ flangeLimits s =
     ∷ (9, gasketRefused (s .m) (s .y))
     ∷ []
 
--- 10, 12 and 13: the bolts' own, of any diameter, root area and count on this flange
-unfoldable pub boltsCauses : BlindFlangeSheet → ℕ → ℕ → ℕ → Causes
-boltsCauses s bolt root count =
-    let gasket = gasketOf s in
-    (10, boltsRefused bolt root count)
-    ∷ (12, circleRefused (s .circle) (s .od) bolt (gasket .«reaction_diameter»))
-    ∷ (13, boltsOverloaded gasket (boltArea root count) (s .sa) (s .sb))
-    ∷ []
+-- the bolts' own, of any diameter, root area and count on this flange, G being that of its gasket
+abbrev pub boltsLimits : BlindFlangeSheet → ℕ → ℕ → ℕ → ℕ → Causes
+boltsLimits s G bolt root count =
+    (10, boltsRefused bolt root count) ∷ (12, circleRefused (s .circle) (s .od) bolt G) ∷ []
 
-unfoldable pub blindFlangeCauses : BlindFlangeSheet → Causes
-blindFlangeCauses s =
-    flangeLimits s ++ (11, boltStressRefused (s .sa) (s .sb)) ∷ boltsCauses s (s .bolt) (s .root) (s .count)
+-- and their stresses
+abbrev pub boltStressLimits : BlindFlangeSheet → Causes
+boltStressLimits s = (11, boltStressRefused (s .sa) (s .sb)) ∷ []
 
--- judged of the bolts and their circle once the gasket is worked, before the loads are
-abbrev pub boltingOrder : List ℕ
-boltingOrder = 10 ∷ 11 ∷ 12 ∷ []
+-- both, for the bolts of the sheet
+unfoldable pub boltingLimits : BlindFlangeSheet → ℕ → Causes
+boltingLimits s G = boltsLimits s G (s .bolt) (s .root) (s .count) ++ boltStressLimits s
