@@ -1,6 +1,6 @@
 -- The first cause in checking order, for callers: found part by part, and what fails where there is none. Nothing here asks
 -- the numbers to rise. Assumes nothing.
-use mathlib.Core.Path.{_≡_, refl, sym, ap, subst, _∙_}
+use mathlib.Core.Path.{_≡_, refl, sym, subst, _∙_}
 use mathlib.Core.Logic.{_≢_}
 use mathlib.Core.Bool.{Bool, true, false, not, _||_, cond, true≢false}
 use mathlib.Core.List.{List, [], _∷_, _++_, foldl}

@@ -10,7 +10,11 @@ use borrow.Author.Tests.{leb-true, leb-false}
 use lib.Dec.{leb}
 use Rattle.root.specs.Least.{Least, Reaches}
 use Rattle.root.specs.Laws.{square-le}
-use Rattle.rules.specs.Exact.{Near}
+use Rattle.rules.specs.Exact.{nearFrom, Near}
+
+-- the least that a square grows by in a step from 2 below nearFrom on
+abbrev pub leastStep : ℕ
+leastStep = 2 * (nearFrom - 2) + 1
 
 -- e is the least for the right side y. k times y is at least the exact right side x, and at most slack above it
 module _
@@ -19,14 +23,14 @@ module _
     (least : Least (Reaches y a) e)
     (low : x ≤ k * y)
     (high : k * y ≤ x + slack) where
-  -- what a step of a square adds from 398 on, 2 · 398 + 1, is more than the slack
-  pub rounded : slack ≤ k * a * 797 → Near (λ t. x ≤ k * a * (t * t)) e
+  -- the slack is not more than what that step adds
+  pub rounded : slack ≤ k * a * leastStep → Near (λ t. x ≤ k * a * (t * t)) e
   rounded small = record {
     holds = omega (arith, mul-le-mul-left k (least .holds));
     fails = λ thick t l. not-le-of-lt (below thick t l);
   }
     where
-      below : 400 ≤ e → (t : ℕ) → t + 2 ≤ e → k * a * (t * t) < x
+      below : nearFrom ≤ e → (t : ℕ) → t + 2 ≤ e → k * a * (t * t) < x
       below thick t l =
           let w = e - 2 in
           let short : a * ((w + 1) * (w + 1)) < y = lt-of-not-le (least .fails (w + 1) (omega arith)) in
@@ -34,7 +38,7 @@ module _
             arith,
             mul-lt-mul-of-pos-left short pos,
             mul-le-mul-left (k * a) (square-le {a = t} {b = w} (omega arith)),
-            mul-le-mul-left {m = 398} {n = w} (k * a) (omega arith),
+            mul-le-mul-left {m = nearFrom - 2} {n = w} (k * a) (omega arith),
           )
 
 -- the same for the right sides of a flange: a fixed part z, and the moment of a load that is rounded up by at most r
@@ -45,7 +49,7 @@ module _
     (high : k * W ≤ X + r)
     (sum : y ≡ z + 954500 * W * lever)
     (least : Least (Reaches y a) e) where
-  pub loaded : 954500 * r * lever ≤ k * a * 797 → Near (λ t. k * z + 954500 * X * lever ≤ k * a * (t * t)) e
+  pub loaded : 954500 * r * lever ≤ k * a * leastStep → Near (λ t. k * z + 954500 * X * lever ≤ k * a * (t * t)) e
   loaded =
       rounded k a y (k * z + 954500 * X * lever) (954500 * r * lever) e pos least
       (rw sum (omega (arith, mul-le-mul-right lever low)))
@@ -70,6 +74,6 @@ near-both {P} {Q} {d} {e} p q n m = record {
   fails = λ h t l b. by-greater (leb e d) refl h t l b;
 }
   where
-    by-greater : (b : Bool) → leb e d ≡ b → 400 ≤ max d e → (t : ℕ) → t + 2 ≤ max d e → ¬ (P t × Q t)
+    by-greater : (b : Bool) → leb e d ≡ b → nearFrom ≤ max d e → (t : ℕ) → t + 2 ≤ max d e → ¬ (P t × Q t)
     by-greater true c h t l b = let c = leb-true e d c in n .fails (omega arith) t (omega arith) (b .0)
     by-greater false c h t l b = let c = leb-false e d c in m .fails (omega arith) t (omega arith) (b .1)

@@ -23,9 +23,9 @@ use Rattle.rules.specs.FlangeCauses.{blindFlangeCauses}
 use Rattle.rules.specs.Exact.{EndplateHolds, AmbientEdgeHolds, OperatingEdgeHolds, Near, ThicknessExact}
 use Rattle.rules.specs.Exact.{EdgeExact, exactFlangeLoadOf}
 use Rattle.rules.proofs.WithinLimits.{FlangeWithin, BoltingWithin, endplate-within, both-within}
-use Rattle.rules.proofs.FlangeBounds.{Stresses, stresses, Circle, circle}
+use Rattle.rules.proofs.FlangeBounded.{Stresses, stresses, Circle, circle}
 use Rattle.rules.proofs.RoundedLoads.{operating-low, operating-high, flange-low, flange-high}
-use Rattle.rules.proofs.Accuracy.{loaded, near-map, near-both}
+use Rattle.rules.proofs.Accuracy.{leastStep, loaded, near-map, near-both}
 
 -- ---- endplates
 
@@ -70,11 +70,11 @@ module _ (s : BlindFlangeSheet) (none : firstCause (blindFlangeCauses s) ≡ 0) 
   diameter = circle s f a {gasket = gasketOf s} refl
 
   -- Wm1 is at most 1 N too much
-  slack-operating : 954500 * 10 ^ 10 * lever ≤ 10 ^ 10 * (100 * S * G) * 797
+  slack-operating : 954500 * 10 ^ 10 * lever ≤ 10 ^ 10 * (100 * S * G) * leastStep
   slack-operating = omega (arith, mul-le-mul-right G (stress .least), a .circle-most)
 
   -- W is at most 3 N too much
-  slack-ambient : 954500 * (6 * 10 ^ 11 * s .sb) * lever ≤ 2 * 10 ^ 11 * s .sb * (100 * S0 * G) * 797
+  slack-ambient : 954500 * (6 * 10 ^ 11 * s .sb) * lever ≤ 2 * 10 ^ 11 * s .sb * (100 * S0 * G) * leastStep
   slack-ambient =
       omega (
         arith,

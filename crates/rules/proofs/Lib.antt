@@ -1,11 +1,11 @@
 -- Laws that the proofs of the functions cite.
+mod ProductsFit
+mod FiguresBounded
 mod WithinLimits
-mod Products
-mod Bounds
-mod FlangeBounds
+mod FlangeBounded
 mod RoundedLoads
 mod Accuracy
 mod Exactness
-mod Sizings
-mod Numbers
-mod Answers
+mod SizedOrRefused
+mod AnswerInNumbers
+mod AnswersExact

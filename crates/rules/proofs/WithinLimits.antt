@@ -3,7 +3,7 @@
 use mathlib.Core.Path.{_≡_}
 use mathlib.Core.Logic.{_≢_}
 use mathlib.Core.List.{_++_}
-use Prim.Native.Nat.{ℕ, _*_, _^_, _≤_}
+use Prim.Native.Nat.{ℕ, _*_, _≤_}
 use native.Mathlib.Nat.{mul-le-mul}
 use native.Mathlib.Omega.{arith}
 use borrow.Author.Tests.{ltb-false, eqb-false}
@@ -14,17 +14,19 @@ use Rattle.limits.specs.Limits.{endplateCauses, flangeLimits, boltingLimits}
 use Rattle.limits.specs.declared.EndplateSheet.{EndplateSheet}
 use Rattle.limits.specs.declared.BlindFlangeSheet.{BlindFlangeSheet}
 use Rattle.limits.specs.Laws.{limit, none-of-both}
+use Rattle.rules.specs.Bounds.{mostPressure, mostDiameter, mostAllowance, mostEffectiveWidth, mostFactor}
+use Rattle.rules.specs.Bounds.{mostBolts, mostArea, mostBoltStress}
 use Rattle.rules.specs.Gasket.{effectiveWidth, reactionDiameter}
 use Rattle.rules.specs.Bolts.{boltArea}
 use Rattle.rules.specs.FlangeCauses.{boltsCauses, blindFlangeCauses}
 use Rattle.rules.specs.Loads.{gasketOf}
-use Rattle.rules.proofs.Bounds.{effectiveWidth-most}
+use Rattle.rules.proofs.FiguresBounded.{effectiveWidth-most}
 
 pub record EndplateWithin (s : EndplateSheet) : Type 0 where
-  pub pressure : s .pressure ≤ 2 ^ 11
+  pub pressure : s .pressure ≤ mostPressure
   pub stressed : endplateStress (s .form) (s .material) (s .shell) (s .temperature) ≢ 0
-  pub diameter : s .diameter ≤ 2 ^ 15
-  pub allowance : s .allowance ≤ 2 ^ 10
+  pub diameter : s .diameter ≤ mostDiameter
+  pub allowance : s .allowance ≤ mostAllowance
 
 pub endplate-within : (s : EndplateSheet) → firstCause (endplateCauses s) ≡ 0 → EndplateWithin s
 unfolding endplateCauses
@@ -39,14 +41,14 @@ endplate-within s e =
 
 -- 2 to 9
 pub record FlangeWithin (s : BlindFlangeSheet) : Type 0 where
-  pub pressure : s .pressure ≤ 2 ^ 11
+  pub pressure : s .pressure ≤ mostPressure
   pub stressed : designStress (s .material) (s .temperature) ≢ 0
-  pub od : s .od ≤ 2 ^ 15
+  pub od : s .od ≤ mostDiameter
   pub od-least : 1 ≤ s .od
-  pub allowance : s .allowance ≤ 2 ^ 10
-  pub width : effectiveWidth (s .width) ≤ 2 ^ 11
-  pub m : s .m ≤ 2 ^ 11
-  pub y : s .y ≤ 2 ^ 11
+  pub allowance : s .allowance ≤ mostAllowance
+  pub width : effectiveWidth (s .width) ≤ mostEffectiveWidth
+  pub m : s .m ≤ mostFactor
+  pub y : s .y ≤ mostFactor
 
 pub flange-within : (s : BlindFlangeSheet) → firstCause (flangeLimits s) ≡ 0 → FlangeWithin s
 unfolding flangeLimits
@@ -65,16 +67,16 @@ flange-within s e =
 
 -- 10 to 12
 pub record BoltingWithin (s : BlindFlangeSheet) : Type 0 where
-  pub area : boltArea (s .root) (s .count) ≤ 2 ^ 24
-  pub sa : s .sa ≤ 2 ^ 9
-  pub sb : s .sb ≤ 2 ^ 9
+  pub area : boltArea (s .root) (s .count) ≤ mostArea
+  pub sa : s .sa ≤ mostBoltStress
+  pub sb : s .sb ≤ mostBoltStress
   pub sb-least : 1 ≤ s .sb
   pub ratio : s .sa ≤ 4 * s .sb
   pub circle-least : s .od ≤ s .circle
   pub circle-most : 2 * s .circle ≤ 3 * reactionDiameter (s .od) (s .width)
 
 area-most :
-    (bolt root count : ℕ) → bolt ≤ 2 ^ 7 → 100 * root ≤ 785 * (bolt * bolt) → count ≤ 2 ^ 7 → count * root ≤ 2 ^ 24
+    (bolt root count : ℕ) → bolt ≤ mostBolts → 100 * root ≤ 785 * (bolt * bolt) → count ≤ mostBolts → count * root ≤ mostArea
 area-most bolt root count hb hr hc =
     let root-most : root ≤ 128614 = omega (arith, mul-le-mul hb hb) in
     omega (arith, mul-le-mul hc root-most)

@@ -1,6 +1,5 @@
 -- Demand 3: the exact inequalities of document 01, on whole numbers, and how near to them a thickness is.
 use Prim.Native.Nat.{ℕ, _+_, _-_, _*_, _^_, _≤_}
-use mathlib.Core.Path.{_≡_}
 use Rattle.tables.specs.DesignStress.{designStress}
 use Rattle.root.specs.Least.{_≥_, Least}
 use Rattle.limits.specs.Stress.{endplateStress}
@@ -34,10 +33,14 @@ OperatingEdgeHolds S G C V1 edge = 10 ^ 12 * S * G * (edge * edge) ≥ 954500 * 
 
 -- ---- the demand
 
--- r satisfies P whatever its size, and where r is 4.00 mm or more no whole number lower by 2 or more does
+-- 4.00 mm: printed so or above, a need or an edge is less than 0.02 mm above the least exact thickness
+abbrev pub nearFrom : ℕ
+nearFrom = 400
+
+-- r satisfies P whatever its size, and from there on no whole number lower by 2 or more does
 pub record Near (P : ℕ → Type 0) (r : ℕ) : Type 0 where
   pub holds : P r
-  pub fails : 400 ≤ r → (t : ℕ) → t + 2 ≤ r → ¬ P t
+  pub fails : nearFrom ≤ r → (t : ℕ) → t + 2 ≤ r → ¬ P t
 
 -- the need of an accepted endplate is the least whole number that satisfies its inequality
 abbrev pub EndplateThicknessExact : EndplateSheet → ℕ → Type 0

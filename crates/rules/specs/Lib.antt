@@ -1,4 +1,5 @@
 -- What the contracts of rules cite, and at each "least with" the law that it is that.
+pub mod Bounds
 pub mod Endplate
 pub mod Gasket
 pub mod Loads

@@ -1,13 +1,14 @@
 // Bolt loads, in N. The bounds asked for are wider than the limits: with them the products fit.
 use crate::compare::greater;
 ghost use mathlib.Core.Path.{_≡_};
-ghost use Prim.Native.Nat.{_≤_, _^_};
+ghost use Prim.Native.Nat.{_≤_};
+ghost use Rattle.rules.specs.Bounds.{mostPressure, mostDiameter, mostEffectiveWidth, mostFactor, BoltsWithin};
 ghost use Rattle.rules.specs.Loads.{exactOperatingLoad, exactSeatingLoad};
 ghost use Rattle.rules.specs.Loads.{operatingLoad, seatingLoad, flangeLoad};
 
 // Wm1.
 pub(crate) fn operating_load(g: u32, b: u64, m: u32, pressure: u32) -> u64
-    requires { ⌜ (g ≤ 2 ^ 15) × (b ≤ 2 ^ 11) × (m ≤ 2 ^ 11) × (pressure ≤ 2 ^ 11) ⌝ }
+    requires { ⌜ (g ≤ mostDiameter) × (b ≤ mostEffectiveWidth) × (m ≤ mostFactor) × (pressure ≤ mostPressure) ⌝ }
     ensures { λ r. ⌜ r ≡ operatingLoad (exactOperatingLoad g b m pressure) ⌝ }
 {
     let g = g as u64;
@@ -19,7 +20,7 @@ pub(crate) fn operating_load(g: u32, b: u64, m: u32, pressure: u32) -> u64
 
 // Wm2.
 pub(crate) fn seating_load(g: u32, b: u64, y: u32) -> u64
-    requires { ⌜ (g ≤ 2 ^ 15) × (b ≤ 2 ^ 11) × (y ≤ 2 ^ 11) ⌝ }
+    requires { ⌜ (g ≤ mostDiameter) × (b ≤ mostEffectiveWidth) × (y ≤ mostFactor) ⌝ }
     ensures { λ r. ⌜ r ≡ seatingLoad (exactSeatingLoad g b y) ⌝ }
 {
     root::ceil_div(314 * b * (g as u64) * (y as u64), 1000000)
@@ -27,7 +28,7 @@ pub(crate) fn seating_load(g: u32, b: u64, y: u32) -> u64
 
 // W, of Wm1, Wm2, A and the bolt stresses.
 pub(crate) fn flange_load(operating: u64, seating: u64, area: u64, sa: u32, sb: u32) -> u64
-    requires { ⌜ (operating ≤ 2 ^ 26) × (seating ≤ 2 ^ 26) × (area ≤ 2 ^ 24) × (sa ≤ 2 ^ 9) × (sb ≤ 2 ^ 9) ⌝ }
+    requires { ⌜ BoltsWithin operating seating area sa sb ⌝ }
     ensures { λ r. ⌜ r ≡ flangeLoad operating seating area sa sb ⌝ }
 {
     let sa = sa as u64;

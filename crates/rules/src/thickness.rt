@@ -1,7 +1,8 @@
 // Thicknesses, in hundredths of a mm. The bounds asked for are wider than the limits: with them the products fit.
 use crate::compare::greater;
 ghost use mathlib.Core.Path.{_≡_};
-ghost use Prim.Native.Nat.{_≤_, _+_, _^_};
+ghost use Prim.Native.Nat.{_≤_, _+_};
+ghost use Rattle.rules.specs.Bounds.{mostPressure, mostStress, mostDiameter, mostLever, mostLoad};
 ghost use Rattle.rules.specs.Endplate.{endplateThickness};
 ghost use Rattle.rules.specs.BlindFlange.{flangeThickness, edgeUnder, edgeThickness};
 
@@ -13,7 +14,7 @@ const MOMENT: u64 = 954500;
 
 // T, the need of an endplate.
 pub(crate) fn endplate_thickness(form: u32, stress: u32, pressure: u32, diameter: u32) -> u64
-    requires { ⌜ (stress ≤ 2 ^ 7) × (pressure ≤ 2 ^ 11) × (diameter ≤ 2 ^ 15) ⌝ }
+    requires { ⌜ (stress ≤ mostStress) × (pressure ≤ mostPressure) × (diameter ≤ mostDiameter) ⌝ }
     ensures { λ r. ⌜ r ≡ endplateThickness form stress pressure diameter ⌝ }
 {
     let d = diameter as u64;
@@ -34,8 +35,8 @@ pub(crate) fn flange_thickness(
     circle: u32,
     operating: u64,
 ) -> u64
-    requires { ⌜ (stress ≤ 2 ^ 7) × (pressure ≤ 2 ^ 11) × (operating ≤ 2 ^ 30) ⌝ }
-    requires { ⌜ (g ≤ 2 ^ 15) × (g ≤ circle) × (circle ≤ g + 2 ^ 14) ⌝ }
+    requires { ⌜ (stress ≤ mostStress) × (pressure ≤ mostPressure) × (operating ≤ mostLoad) ⌝ }
+    requires { ⌜ (g ≤ mostDiameter) × (g ≤ circle) × (circle ≤ g + mostLever) ⌝ }
     ensures { λ r. ⌜ r ≡ flangeThickness stress g pressure circle operating ⌝ }
 {
     let d = g as u64;
@@ -46,8 +47,8 @@ pub(crate) fn flange_thickness(
 
 // The edge that a stress and a load ask for.
 fn edge_under(stress: u32, g: u32, circle: u32, load: u64) -> u64
-    requires { ⌜ (stress ≤ 2 ^ 7) × (load ≤ 2 ^ 30) ⌝ }
-    requires { ⌜ (g ≤ 2 ^ 15) × (g ≤ circle) × (circle ≤ g + 2 ^ 14) ⌝ }
+    requires { ⌜ (stress ≤ mostStress) × (load ≤ mostLoad) ⌝ }
+    requires { ⌜ (g ≤ mostDiameter) × (g ≤ circle) × (circle ≤ g + mostLever) ⌝ }
     ensures { λ r. ⌜ r ≡ edgeUnder stress g circle load ⌝ }
 {
     let moment = MOMENT * load * ((circle - g) as u64);
@@ -63,8 +64,8 @@ pub(crate) fn edge_thickness(
     operating: u64,
     flange: u64,
 ) -> u64
-    requires { ⌜ (stress ≤ 2 ^ 7) × (ambient ≤ 2 ^ 7) × (operating ≤ 2 ^ 30) × (flange ≤ 2 ^ 30) ⌝ }
-    requires { ⌜ (g ≤ 2 ^ 15) × (g ≤ circle) × (circle ≤ g + 2 ^ 14) ⌝ }
+    requires { ⌜ (stress ≤ mostStress) × (ambient ≤ mostStress) × (operating ≤ mostLoad) × (flange ≤ mostLoad) ⌝ }
+    requires { ⌜ (g ≤ mostDiameter) × (g ≤ circle) × (circle ≤ g + mostLever) ⌝ }
     ensures { λ r. ⌜ r ≡ edgeThickness stress ambient g circle operating flange ⌝ }
 {
     let ambient_edge = edge_under(ambient, g, circle, flange);

@@ -53,13 +53,22 @@ stress-rule : (test : ℕ → Bool) → T (every (every test) table1) → T (tes
 stress-rule test e z m t =
     rw (in-table m t) (at test (rowOf m) 0 (at (every test) ([] ∷ table1) [] e tt m) z (column t))
 
-pub stress-most : (m t : ℕ) → designStress m t ≤ 128
-stress-most m t = leb→le _ _ (stress-rule (λ s. leb s 128) tt tt m t)
+-- the greatest and the least stress of the table
+abbrev pub greatestStress : ℕ
+greatestStress = 128
 
-pub stress-least : (m t : ℕ) → designStress m t ≢ 0 → 18 ≤ designStress m t
+abbrev pub leastStress : ℕ
+leastStress = 18
+
+pub stress-most : (m t : ℕ) → designStress m t ≤ greatestStress
+stress-most m t = leb→le _ _ (stress-rule (λ s. leb s greatestStress) tt tt m t)
+
+pub stress-least : (m t : ℕ) → designStress m t ≢ 0 → leastStress ≤ designStress m t
 stress-least m t h =
     let s = designStress m t in
-    leb→le 18 s (other (eqb s 0) (leb 18 s) (stress-rule (λ s. eqb s 0 || leb 18 s) tt tt m t) (λ z. h (eqb→eq s 0 z)))
+    let enough = leb leastStress s in
+    let rule = stress-rule (λ s. eqb s 0 || leb leastStress s) tt tt m t in
+    leb→le leastStress s (other (eqb s 0) enough rule (λ z. h (eqb→eq s 0 z)))
 
 -- a material's greatest stress is that of its first column
 pub ambient-greatest : (m t : ℕ) → designStress m t ≤ designStress m 50

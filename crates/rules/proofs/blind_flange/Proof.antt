@@ -1,6 +1,6 @@
 -- `blind_flange` meets its contract. Assumes nothing.
 use borrow.Author.Needs.{needs}
-use Rattle.rules.proofs.Answers.{flange-promised}
+use Rattle.rules.proofs.AnswersExact.{flange-promised}
 use Rattle.rules.proofs.blind_flange.Statement.{statement}
 use Rattle.rules.proofs.blind_flange.Tie as tie
 

@@ -1,7 +1,7 @@
 -- `blind_flange_from_bytes` meets its contract. Assumes nothing.
 use borrow.Author.Needs.{needs}
 use Rattle.plates.specs.Plates.{platesIn}
-use Rattle.rules.proofs.Answers.{flange-promised}
+use Rattle.rules.proofs.AnswersExact.{flange-promised}
 use Rattle.rules.proofs.blind_flange_from_bytes.Statement.{statement}
 use Rattle.rules.proofs.blind_flange_from_bytes.Tie as tie
 

@@ -1,6 +1,6 @@
 -- `endplate` meets its contract. Assumes nothing.
 use borrow.Author.Needs.{needs}
-use Rattle.rules.proofs.Answers.{endplate-promised}
+use Rattle.rules.proofs.AnswersExact.{endplate-promised}
 use Rattle.rules.proofs.endplate.Statement.{statement}
 use Rattle.rules.proofs.endplate.Tie as tie
 

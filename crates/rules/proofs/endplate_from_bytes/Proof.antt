@@ -1,7 +1,7 @@
 -- `endplate_from_bytes` meets its contract. Assumes nothing.
 use borrow.Author.Needs.{needs}
 use Rattle.plates.specs.Plates.{platesIn}
-use Rattle.rules.proofs.Answers.{endplate-promised}
+use Rattle.rules.proofs.AnswersExact.{endplate-promised}
 use Rattle.rules.proofs.endplate_from_bytes.Statement.{statement}
 use Rattle.rules.proofs.endplate_from_bytes.Tie as tie
 

@@ -3,7 +3,7 @@ use mathlib.Core.Path.{refl}
 use native.Mathlib.Omega.{arith}
 use borrow.Author.Needs.{needs}
 use Rattle.rules.specs.Bolts.{boltsSufficient}
-use Rattle.rules.proofs.Products.{bolt-products}
+use Rattle.rules.proofs.ProductsFit.{bolt-products}
 use Rattle.rules.proofs.bolts.bolts_sufficient.Statement.{statement}
 use Rattle.rules.proofs.bolts.bolts_sufficient.Tie as tie
 

@@ -1,11 +1,12 @@
 -- `figures::blind_flange_figures` meets its contract: what each call asks for follows from what those before it
 -- answered. Assumes nothing.
-use Prim.Native.Nat.{_^_, _≤_}
+use Prim.Native.Nat.{_≤_}
 use native.Mathlib.Omega.{arith}
 use borrow.Author.Needs.{needs}
+use Rattle.rules.specs.Bounds.{mostLoad}
 use Rattle.rules.specs.Figures.{blindFlangeFigures}
 use Rattle.rules.proofs.WithinLimits.{FlangeWithin, BoltingWithin, both-within}
-use Rattle.rules.proofs.FlangeBounds as bounds
+use Rattle.rules.proofs.FlangeBounded as bounds
 use Rattle.rules.proofs.figures.blind_flange_figures.Statement.{statement}
 use Rattle.rules.proofs.figures.blind_flange_figures.Tie as tie
 
@@ -29,7 +30,7 @@ stresses c =
     let b = c .before .before in
     bounds.stresses (b .args .s) (limits b) (c .before .design-stress .ensures) (c .design-stress2 .ensures)
 
-flange : (c : tie.After-flange-load) → c .flange-load .result ≤ 2 ^ 30
+flange : (c : tie.After-flange-load) → c .flange-load .result ≤ mostLoad
 flange c =
     let b = c .before .before .before .before in
     bounds.flange (b .args .s) (limits b) (bolting b) (gasket b .operating) (gasket b .seating)
@@ -62,7 +63,7 @@ total-fits c =
     let b = d .before .before in
     let s = b .args .s in
     let most = gasket b in
-    let w : b .args .gasket .«operating_load» ≤ 2 ^ 30 = omega (arith, most .operating) in
+    let w : b .args .gasket .«operating_load» ≤ mostLoad = omega (arith, most .operating) in
     let diameter = most .ring .diameter in
     omega (
       arith,

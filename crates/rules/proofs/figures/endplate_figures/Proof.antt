@@ -3,7 +3,7 @@ use native.Mathlib.Omega.{arith}
 use borrow.Author.Needs.{needs}
 use Rattle.rules.specs.Figures.{endplateFigures}
 use Rattle.rules.proofs.WithinLimits.{endplate-within}
-use Rattle.rules.proofs.Bounds.{endplateStress-most, endplateThickness-most}
+use Rattle.rules.proofs.FiguresBounded.{endplateStress-most, endplateThickness-most}
 use Rattle.rules.proofs.figures.endplate_figures.Statement.{statement}
 use Rattle.rules.proofs.figures.endplate_figures.Tie as tie
 

@@ -4,7 +4,7 @@ use native.Mathlib.Omega.{arith}
 use borrow.Author.Needs.{needs}
 use borrow.Author.Tests.{le-leb, lt-leb}
 use Rattle.rules.specs.Gasket.{wideWidth, effectiveWidth}
-use Rattle.rules.proofs.Bounds.{wideWidth-most}
+use Rattle.rules.proofs.FiguresBounded.{wideWidth-most}
 use Rattle.rules.proofs.gasket.effective_width.Statement.{statement}
 use Rattle.rules.proofs.gasket.effective_width.Tie as tie
 

@@ -1,9 +1,9 @@
 -- `gasket::gasket_of` meets its contract: within the limits the loads fit. Assumes nothing.
 use borrow.Author.Needs.{needs}
 use Rattle.rules.specs.Loads.{gasketOf}
-use Rattle.rules.proofs.Bounds.{inset}
+use Rattle.rules.proofs.FiguresBounded.{inset}
 use Rattle.rules.proofs.WithinLimits.{FlangeWithin, flange-within}
-use Rattle.rules.proofs.FlangeBounds.{RingMost, ring-most}
+use Rattle.rules.proofs.FlangeBounded.{RingMost, ring-most}
 use Rattle.rules.proofs.gasket.gasket_of.Statement.{statement}
 use Rattle.rules.proofs.gasket.gasket_of.Tie as tie
 

@@ -5,7 +5,7 @@ use native.Mathlib.Omega.{arith}
 use borrow.Author.Needs.{needs}
 use Rattle.root.specs.Root.{ceilDiv}
 use Rattle.rules.specs.Loads.{flangeLoad}
-use Rattle.rules.proofs.Products.{bolt-products}
+use Rattle.rules.proofs.ProductsFit.{bolt-products}
 use Rattle.rules.proofs.loads.flange_load.Statement.{statement}
 use Rattle.rules.proofs.loads.flange_load.Tie as tie
 

@@ -2,7 +2,7 @@
 use native.Mathlib.Omega.{arith}
 use borrow.Author.Needs.{needs}
 use Rattle.rules.specs.Loads.{exactSeatingLoad, seatingLoad}
-use Rattle.rules.proofs.Products.{ring-products}
+use Rattle.rules.proofs.ProductsFit.{ring-products}
 use Rattle.rules.proofs.loads.seating_load.Statement.{statement}
 use Rattle.rules.proofs.loads.seating_load.Tie as tie
 

@@ -10,8 +10,8 @@ use Rattle.rules.specs.Loads.{gasketOf}
 use Rattle.rules.specs.declared.gasket.Gasket.{Gasket}
 use Rattle.rules.specs.FlangeCauses.{boltsCauses, blindFlangeCauses}
 use Rattle.rules.proofs.WithinLimits.{BoltingWithin, flange-within, bolting-within}
-use Rattle.rules.proofs.FlangeBounds.{gasket-most}
-use Rattle.rules.proofs.Sizings as sizings
+use Rattle.rules.proofs.FlangeBounded.{gasket-most}
+use Rattle.rules.proofs.SizedOrRefused as sizings
 use Rattle.rules.proofs.sizing.blind_flange_sizing.Statement.{statement}
 use Rattle.rules.proofs.sizing.blind_flange_sizing.Tie as tie
 

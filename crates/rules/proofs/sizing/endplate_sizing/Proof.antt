@@ -1,7 +1,7 @@
 -- `sizing::endplate_sizing` meets its contract. Assumes nothing.
 use mathlib.Core.Path.{sym, _∙_}
 use borrow.Author.Needs.{needs}
-use Rattle.rules.proofs.Sizings.{endplate-refused, endplate-sized}
+use Rattle.rules.proofs.SizedOrRefused.{endplate-refused, endplate-sized}
 use Rattle.rules.proofs.sizing.endplate_sizing.Statement.{statement}
 use Rattle.rules.proofs.sizing.endplate_sizing.Tie as tie
 

@@ -2,7 +2,7 @@
 use native.Mathlib.Omega.{arith}
 use borrow.Author.Needs.{needs}
 use Rattle.rules.specs.BlindFlange.{edgeUnder}
-use Rattle.rules.proofs.Products.{edge-products}
+use Rattle.rules.proofs.ProductsFit.{edge-products}
 use Rattle.rules.proofs.thickness.edge_under.Statement.{statement}
 use Rattle.rules.proofs.thickness.edge_under.Tie as tie
 

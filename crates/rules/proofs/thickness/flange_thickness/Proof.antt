@@ -2,7 +2,7 @@
 use native.Mathlib.Omega.{arith}
 use borrow.Author.Needs.{needs}
 use Rattle.rules.specs.BlindFlange.{flangeThickness}
-use Rattle.rules.proofs.Products.{edge-products, bending-products}
+use Rattle.rules.proofs.ProductsFit.{edge-products, bending-products}
 use Rattle.rules.proofs.thickness.flange_thickness.Statement.{statement}
 use Rattle.rules.proofs.thickness.flange_thickness.Tie as tie
 

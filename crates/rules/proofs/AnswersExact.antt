@@ -3,12 +3,11 @@ use mathlib.Core.Path.{_≡_, refl, sym, subst}
 use mathlib.Core.List.{List}
 use Prim.Native.Nat.{ℕ}
 use native.Mathlib.Omega.{arith}
-use Rattle.plates.specs.Plates.{smallestServing}
 use Rattle.plates.specs.declared.Choice.{Choice}
 use Rattle.plates.specs.declared.Choice.the-variants.{Plate, NoPlate}
 use Rattle.limits.specs.declared.EndplateSheet.{EndplateSheet}
 use Rattle.limits.specs.declared.BlindFlangeSheet.{BlindFlangeSheet}
-use Rattle.rules.specs.Answer.{endplateSizing, blindFlangeSizing, totalOf, withPlate, fromPlates}
+use Rattle.rules.specs.Answer.{endplateSizing, blindFlangeSizing, withPlate, fromPlates}
 use Rattle.rules.specs.Answer.{endplateAnswer, blindFlangeAnswer}
 use Rattle.rules.specs.Numbers.{endplateCause, endplateFigure, endplateReport, blindFlangeCause}
 use Rattle.rules.specs.Numbers.{blindFlangeFigure, blindFlangeReport}
@@ -16,11 +15,10 @@ use Rattle.rules.specs.Exact.{EndplateThicknessExact, EndplateExact, Thi
 use Rattle.rules.specs.Exact.{BlindFlangeExact}
 use Rattle.rules.specs.declared.EndplateFigures.{EndplateFigures}
 use Rattle.rules.specs.declared.BlindFlangeFigures.{BlindFlangeFigures}
-use Rattle.rules.specs.declared.sizing.Sizing.{Sizing}
 use Rattle.rules.specs.declared.sizing.Sizing.the-variants.{Endplate, BlindFlange}
 use Rattle.rules.specs.declared.Answer.{Answer}
-use Rattle.rules.proofs.Sizings.{by-cause}
-use Rattle.rules.proofs.Numbers.{Told, endplate-numbers, flange-numbers}
+use Rattle.rules.proofs.SizedOrRefused.{by-cause}
+use Rattle.rules.proofs.AnswerInNumbers.{Told, endplate-numbers, flange-numbers}
 use Rattle.rules.proofs.Exactness.{endplate-least, thickness-near, edge-near}
 
 -- an answer that is the definition's has what the definition's has

@@ -12,23 +12,25 @@ use Rattle.tables.specs.Laws.{stress-most}
 use Rattle.root.specs.Least.{least-most}
 use Rattle.root.specs.Laws.{ceilDiv-le}
 use Rattle.limits.specs.Stress.{formA, endplateStress}
+use Rattle.rules.specs.Bounds.{mostPressure, mostStress, mostDiameter, mostWidth, mostEffectiveWidth}
+use Rattle.rules.specs.Bounds.{mostFactor, mostBoltStress, mostGasketLoad, mostThickness}
 use Rattle.rules.specs.Endplate.{endplateThickness, endplate-factor, endplateThickness-least}
 use Rattle.rules.specs.BlindFlange.{moment, flangeLoading, flangeThickness, edgeUnder, flange-factor}
 use Rattle.rules.specs.BlindFlange.{flangeThickness-least, edgeUnder-least}
 use Rattle.rules.specs.Gasket.{narrow, wideWidth, wideWidth-least, effectiveWidth, reactionDiameter}
 use Rattle.rules.specs.Loads.{exactOperatingLoad, exactSeatingLoad, operatingLoad, seatingLoad, flangeLoad}
-use Rattle.rules.proofs.Products.{ring-products}
+use Rattle.rules.proofs.ProductsFit.{ring-products}
 
 -- ---- the gasket
 
 pub wideWidth-most : (n k : ℕ) → 31752 * n ≤ 1000 * (k * k) → wideWidth n ≤ k
 wideWidth-most n k h = least-most k (wideWidth-least n) h
 
-pub effectiveWidth-most : (n : ℕ) → n ≤ 2 ^ 10 → effectiveWidth n ≤ 2 ^ 11
+pub effectiveWidth-most : (n : ℕ) → n ≤ mostWidth → effectiveWidth n ≤ mostEffectiveWidth
 unfolding effectiveWidth
 effectiveWidth-most n h = by-width (narrow n) refl
   where
-    by-width : (b : Bool) → narrow n ≡ b → cond b (5 * n) (10 * wideWidth n) ≤ 2 ^ 11
+    by-width : (b : Bool) → narrow n ≡ b → cond b (5 * n) (10 * wideWidth n) ≤ mostEffectiveWidth
     by-width true e = omega (arith, leb-true)
     by-width false e = omega (arith, wideWidth-most n 181 (omega arith))
 
@@ -45,25 +47,29 @@ inset od n = by-width (narrow n)
 
 pub operatingLoad-most :
     {G b m P : ℕ} →
-    G ≤ 2 ^ 15 →
-    b ≤ 2 ^ 11 →
-    m ≤ 2 ^ 11 →
-    P ≤ 2 ^ 11 →
-    operatingLoad (exactOperatingLoad G b m P) ≤ 2 ^ 26
+    G ≤ mostDiameter →
+    b ≤ mostEffectiveWidth →
+    m ≤ mostFactor →
+    P ≤ mostPressure →
+    operatingLoad (exactOperatingLoad G b m P) ≤ mostGasketLoad
 unfolding operatingLoad exactOperatingLoad
 operatingLoad-most hG hb hm hP =
-    ceilDiv-le _ (10 ^ 10) (2 ^ 26) (omega arith) .1 (omega (arith, ring-products hG hb hm hP))
+    ceilDiv-le _ (10 ^ 10) mostGasketLoad (omega arith) .1 (omega (arith, ring-products hG hb hm hP))
 
 pub seatingLoad-most :
-    {G b y : ℕ} → G ≤ 2 ^ 15 → b ≤ 2 ^ 11 → y ≤ 2 ^ 11 → seatingLoad (exactSeatingLoad G b y) ≤ 2 ^ 26
+    {G b y : ℕ} →
+    G ≤ mostDiameter →
+    b ≤ mostEffectiveWidth →
+    y ≤ mostFactor →
+    seatingLoad (exactSeatingLoad G b y) ≤ mostGasketLoad
 unfolding seatingLoad exactSeatingLoad
 seatingLoad-most hG hb hy =
-    ceilDiv-le _ (10 ^ 6) (2 ^ 26) (omega arith) .1 (omega (arith, ring-products hG hb hy hy))
+    ceilDiv-le _ (10 ^ 6) mostGasketLoad (omega arith) .1 (omega (arith, ring-products hG hb hy hy))
 
 -- sa ≤ 4·sb bounds W by the other loads and the area
 pub flangeLoad-most :
     (Wm1 Wm2 A sa sb : ℕ) →
-    sa ≤ 2 ^ 9 →
+    sa ≤ mostBoltStress →
     1 ≤ sb →
     sa ≤ 4 * sb →
     flangeLoad Wm1 Wm2 A sa sb ≤ 2 * Wm1 + Wm2 + 26 * A
@@ -74,26 +80,26 @@ flangeLoad-most Wm1 Wm2 A sa sb ha hb ratio =
 
 -- ---- the stress of an endplate
 
-pub endplateStress-most : (form m shell t : ℕ) → endplateStress form m shell t ≤ 2 ^ 7
+pub endplateStress-most : (form m shell t : ℕ) → endplateStress form m shell t ≤ mostStress
 unfolding endplateStress
 endplateStress-most form m shell t = by-form (eqb form formA)
   where
-    by-form : (b : Bool) → cond b (designStress m t) (min (designStress m t) (designStress shell t)) ≤ 2 ^ 7
+    by-form : (b : Bool) → cond b (designStress m t) (min (designStress m t) (designStress shell t)) ≤ mostStress
     by-form true = stress-most m t
     by-form false = omega (arith, stress-most m t)
 
 -- ---- the thicknesses: at most 2³², since the right sides are at most 2⁶⁴
 
 pub endplateThickness-most :
-    (form : ℕ) {F P d : ℕ} → F ≢ 0 → P ≤ 2 ^ 11 → d ≤ 2 ^ 15 → endplateThickness form F P d ≤ 2 ^ 32
+    (form : ℕ) {F P d : ℕ} → F ≢ 0 → P ≤ mostPressure → d ≤ mostDiameter → endplateThickness form F P d ≤ mostThickness
 endplateThickness-most form {F} {P} {d} hF hP hd =
-    least-most (2 ^ 32) (endplateThickness-least form F P d hF)
+    least-most mostThickness (endplateThickness-least form F P d hF)
     (omega (arith, mul-le-mul hP (mul-le-mul hd hd), endplate-factor form F hF))
 
 module _ (S G C : ℕ) (hS : 1 ≤ S) (hG : 1 ≤ G) where
-  pub flangeThickness-most : (P Wm1 : ℕ) → flangeLoading G P C Wm1 ≤ 2 ^ 64 → flangeThickness S G P C Wm1 ≤ 2 ^ 32
+  pub flangeThickness-most : (P Wm1 : ℕ) → flangeLoading G P C Wm1 ≤ 2 ^ 64 → flangeThickness S G P C Wm1 ≤ mostThickness
   flangeThickness-most P Wm1 h =
-      least-most (2 ^ 32) (flangeThickness-least S G P C Wm1 hS hG) (omega (arith, flange-factor S G hS hG))
+      least-most mostThickness (flangeThickness-least S G P C Wm1 hS hG) (omega (arith, flange-factor S G hS hG))
 
-  pub edgeUnder-most : (W : ℕ) → moment W C G ≤ 2 ^ 64 → edgeUnder S G C W ≤ 2 ^ 32
-  edgeUnder-most W h = least-most (2 ^ 32) (edgeUnder-least S G C W hS hG) (omega (arith, flange-factor S G hS hG))
+  pub edgeUnder-most : (W : ℕ) → moment W C G ≤ 2 ^ 64 → edgeUnder S G C W ≤ mostThickness
+  edgeUnder-most W h = least-most mostThickness (edgeUnder-least S G C W hS hG) (omega (arith, flange-factor S G hS hG))
