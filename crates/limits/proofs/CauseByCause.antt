@@ -1,7 +1,7 @@
 -- The first cause in checking order, found cause by cause as the code does. Assumes nothing.
-use mathlib.Core.Path.{_≡_, refl, sym, ap, _∙_}
-use mathlib.Core.Bool.{Bool, true, false, _||_, cond}
-use mathlib.Core.List.{List, [], _∷_, _++_, foldl}
+use mathlib.Core.Path.{_≡_, refl, ap, _∙_}
+use mathlib.Core.Bool.{Bool, true, false, cond}
+use mathlib.Core.List.{List, [], _∷_}
 use Prim.Native.Nat.{ℕ}
 use lib.Dec.{T, eqb}
 use Rattle.tables.specs.TableRule.{every, both}
@@ -50,23 +50,3 @@ next-cause number {k = k} {r = r} e p t =
 -- a test of a number that a call answered
 pub via : (test : ℕ → Tests) {r : Bool} {f g : ℕ} → r ≡ any (test f) → f ≡ g → r ≡ any (test g)
 via test e p = e ∙ ap (λ (f : ℕ). any (test f)) p
-
--- of tests one after another, one holds if one of the first or one of the others does
-or-assoc : (a b c : Bool) → ((a || b) || c) ≡ (a || (b || c))
-or-assoc true b c = refl
-or-assoc false b c = refl
-
-or-false : (a : Bool) → (a || false) ≡ a
-or-false true = refl
-or-false false = refl
-
-from : (a : Bool) (ts : Tests) → foldl _||_ a ts ≡ (a || any ts)
-from a [] = sym (or-false a)
-from a (t ∷ ts) = from (a || t) ts ∙ or-assoc a t (any ts) ∙ ap (λ (b : Bool). a || b) (sym (from t ts))
-
-onto : (a : Bool) (ss ts : Tests) → foldl _||_ a (ss ++ ts) ≡ foldl _||_ (foldl _||_ a ss) ts
-onto a [] ts = refl
-onto a (s ∷ ss) ts = onto (a || s) ss ts
-
-pub any-append : (ss ts : Tests) → any (ss ++ ts) ≡ (any ss || any ts)
-any-append ss ts = onto false ss ts ∙ from (any ss) ts

@@ -15,10 +15,10 @@ any tests = foldl _||_ false tests
 abbrev pub Causes : Type 0
 Causes = List (ℕ × Tests)
 
--- the tests of the cause with this number, wherever it stands; none where the list has no such cause
+-- the tests of the cause with this number, wherever its rows stand; none where the list has no such cause
 abbrev pub testsOf : Causes → ℕ → Tests
 testsOf [] number = []
-testsOf (c ∷ cs) number = cond (eqb (c .0) number) (c .1) (testsOf cs number)
+testsOf (c ∷ cs) number = let rest = testsOf cs number in cond (eqb (c .0) number) (c .1 ++ rest) rest
 
 -- the first of these numbers whose cause applies, 0 where none does
 unfoldable pub firstOf : List ℕ → Causes → ℕ

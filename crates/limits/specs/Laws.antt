@@ -1,9 +1,9 @@
 -- The first cause in checking order, for callers: found part by part, and what fails where there is none. Nothing here asks
 -- the numbers to rise. Assumes nothing.
-use mathlib.Core.Path.{_≡_, refl, sym, subst, _∙_}
+use mathlib.Core.Path.{_≡_, refl, sym, ap, subst, _∙_}
 use mathlib.Core.Logic.{_≢_}
 use mathlib.Core.Bool.{Bool, true, false, not, _||_, cond, true≢false}
-use mathlib.Core.List.{List, [], _∷_, _++_, foldl}
+use mathlib.Core.List.{List, [], _∷_, _++_, foldl, List·Memᴰ, List·Memᴰ·head, List·Memᴰ·tail, List·Memᴰ·not-nil}
 use Prim.Native.Nat.{ℕ, zero, suc}
 use borrow.Author.Tests.{eqb-true, eqb-false}
 use lib.Dec.{T, eqb, T-not}
@@ -18,6 +18,28 @@ numbered number = not (eqb number 0)
 pub no : (b : Bool) → T (not b) → b ≡ false
 no true t = absurd t
 no false t = refl
+
+-- ---- tests one after another
+
+-- of tests one after another, one holds if one of the first or one of the others does
+or-assoc : (a b c : Bool) → ((a || b) || c) ≡ (a || (b || c))
+or-assoc true b c = refl
+or-assoc false b c = refl
+
+or-false : (a : Bool) → (a || false) ≡ a
+or-false true = refl
+or-false false = refl
+
+from : (a : Bool) (ts : Tests) → foldl _||_ a ts ≡ (a || any ts)
+from a [] = sym (or-false a)
+from a (t ∷ ts) = from (a || t) ts ∙ or-assoc a t (any ts) ∙ ap (λ (b : Bool). a || b) (sym (from t ts))
+
+onto : (a : Bool) (ss ts : Tests) → foldl _||_ a (ss ++ ts) ≡ foldl _||_ (foldl _||_ a ss) ts
+onto a [] ts = refl
+onto a (s ∷ ss) ts = onto (a || s) ss ts
+
+pub any-append : (ss ts : Tests) → any (ss ++ ts) ≡ (any ss || any ts)
+any-append ss ts = onto false ss ts ∙ from (any ss) ts
 
 -- ---- part by part
 
@@ -131,11 +153,56 @@ none-applies (n ∷ ns) cs t e number m =
     by-test false f z k r = by-number (eqb n number) refl m f (r z number)
 
 -- where no cause applies, each test of each fails: a cause is named by its number
-pub limit :
+pub cause-fails :
     (cs : Causes) →
     firstCause cs ≡ 0 →
     (number : ℕ) →
     T (among number checkingOrder) →
     (j : ℕ) →
     getD (testsOf cs number) j false ≡ false
-limit cs e number m = each false (testsOf cs number) (none-applies checkingOrder cs tt e number m) .1
+cause-fails cs e number m = each false (testsOf cs number) (none-applies checkingOrder cs tt e number m) .1
+
+-- ---- no row is passed over
+
+-- a row's number is in checking order
+abbrev pub checked : ℕ × Tests → Bool
+checked c = among (c .0) checkingOrder
+
+-- of tests one after another none of which holds, none of the first and none of the others does
+both-fail : (ss ts : Tests) → any (ss ++ ts) ≡ false → (any ss ≡ false) × (any ts ≡ false)
+both-fail ss ts f = first-fails _ _ (sym (any-append ss ts) ∙ f)
+
+rest-fails : (b : Bool) (ss ts : Tests) → any (cond b (ss ++ ts) ts) ≡ false → any ts ≡ false
+rest-fails true ss ts f = both-fail ss ts f .1
+rest-fails false ss ts f = f
+
+at-its-row :
+    (cs : Causes) (c : ℕ × Tests) → List·Memᴰ c cs → any (testsOf cs (c .0)) ≡ false → any (c .1) ≡ false
+at-its-row [] c m f = absurd (List·Memᴰ·not-nil m)
+at-its-row (d ∷ cs) c (List·Memᴰ·head e) f = by-number (eqb (d .0) (c .0)) refl f
+  where
+    by-number :
+        (b : Bool) →
+        eqb (d .0) (c .0) ≡ b →
+        any (cond b (d .1 ++ testsOf cs (c .0)) (testsOf cs (c .0))) ≡ false →
+        any (c .1) ≡ false
+    by-number true q f = ap (λ (r : ℕ × Tests). any (r .1)) e ∙ both-fail (d .1) (testsOf cs (c .0)) f .0
+    by-number false q f = absurd (eqb-false _ _ q (ap (λ (r : ℕ × Tests). r .0) (sym e)))
+at-its-row (d ∷ cs) c (List·Memᴰ·tail m) f =
+    at-its-row cs c m (rest-fails (eqb (d .0) (c .0)) (d .1) (testsOf cs (c .0)) f)
+
+listed : (cs : Causes) (c : ℕ × Tests) → T (every checked cs) → List·Memᴰ c cs → T (checked c)
+listed [] c t m = absurd (List·Memᴰ·not-nil m)
+listed (d ∷ cs) c t (List·Memᴰ·head e) = rw e (both (checked d) (every checked cs) t .0)
+listed (d ∷ cs) c t (List·Memᴰ·tail m) = listed cs c (both (checked d) (every checked cs) t .1) m
+
+-- where no cause is found, no row of the list applies
+pub none-passed-over :
+    (cs : Causes) →
+    T (every checked cs) →
+    firstCause cs ≡ 0 →
+    (c : ℕ × Tests) →
+    List·Memᴰ c cs →
+    any (c .1) ≡ false
+none-passed-over cs t e c m =
+    at-its-row cs c m (none-applies checkingOrder cs tt e (c .0) (listed cs c t m))

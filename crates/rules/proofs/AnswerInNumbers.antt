@@ -11,7 +11,7 @@ use Rattle.plates.specs.Plates.{smallestServing, plateOf, isChosen}
 use Rattle.plates.specs.Laws.{chosen-serves}
 use Rattle.plates.specs.declared.Choice.{Choice}
 use Rattle.plates.specs.declared.Choice.the-variants.{Plate, NoPlate}
-use Rattle.limits.specs.Causes.{Tests, any, Causes, firstOf, firstCause, ofNumbers, ofBolting, ofLoads, ofPlates}
+use Rattle.limits.specs.Causes.{Causes, firstOf, firstCause, ofNumbers, ofBolting, ofLoads, ofPlates}
 use Rattle.limits.specs.Limits.{endplateCauses, flangeLimits}
 use Rattle.limits.specs.declared.EndplateSheet.{EndplateSheet}
 use Rattle.limits.specs.declared.BlindFlangeSheet.{BlindFlangeSheet}
@@ -35,22 +35,22 @@ abbrev beforePlates : List ℕ
 beforePlates = ofNumbers ++ ofBolting ++ ofLoads
 
 -- 14 is looked for where none before it applies, and is not among them
-abbrev PlateLast : Causes → Tests → Type 0
+abbrev PlateLast : Causes → Bool → Type 0
 PlateLast cs t =
     let k = firstCause cs in
-    (firstCause (cs ++ (14, t) ∷ []) ≡ cond (eqb k 0) (cond (any t) 14 0) k) × (k ≢ 14)
+    (firstCause (cs ++ (14, t ∷ []) ∷ []) ≡ cond (eqb k 0) (cond t 14 0) k) × (k ≢ 14)
 
-endplate-last : (s : EndplateSheet) (t : Tests) → PlateLast (endplateCauses s) t
+endplate-last : (s : EndplateSheet) (t : Bool) → PlateLast (endplateCauses s) t
 unfolding firstOf endplateCauses
 endplate-last s t = (
-  in-turn beforePlates ofPlates (endplateCauses s ++ (14, t) ∷ []) tt,
+  in-turn beforePlates ofPlates (endplateCauses s ++ (14, t ∷ []) ∷ []) tt,
   not-among 14 beforePlates (endplateCauses s) (λ e. omega arith) tt,
 )
 
-flange-last : (s : BlindFlangeSheet) (t : Tests) → PlateLast (blindFlangeCauses s) t
+flange-last : (s : BlindFlangeSheet) (t : Bool) → PlateLast (blindFlangeCauses s) t
 unfolding firstOf blindFlangeCauses flangeLimits boltsCauses
 flange-last s t = (
-  in-turn beforePlates ofPlates (blindFlangeCauses s ++ (14, t) ∷ []) tt,
+  in-turn beforePlates ofPlates (blindFlangeCauses s ++ (14, t ∷ []) ∷ []) tt,
   not-among 14 beforePlates (blindFlangeCauses s) (λ e. omega arith) tt,
 )
 
@@ -73,7 +73,7 @@ Last sized figures c =
     (withPlate sized c)
 
 -- from the causes, the figures and the plates; `sized` is what is answered where no cause applies
-module _ (cs : Causes) (plate-last : (t : Tests) → PlateLast cs t) (sized : Sizing) (figures plates : List ℕ)
+module _ (cs : Causes) (plate-last : (t : Bool) → PlateLast cs t) (sized : Sizing) (figures plates : List ℕ)
   where
     abbrev total : ℕ
     total = totalOf sized
@@ -101,7 +101,7 @@ module _ (cs : Causes) (plate-last : (t : Tests) → PlateLast cs t) (sized : Si
             (fromPlates (cond b sized (Refused (firstCause cs))) plates)
         by-test true z = last choice
         by-test false z =
-            (refl, rw (ne-eqb (firstCause cs) 14 (plate-last [] .1)), rw z)
+            (refl, rw (ne-eqb (firstCause cs) 14 (plate-last false .1)), rw z)
 
 -- ---- both parts
 

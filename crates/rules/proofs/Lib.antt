@@ -6,6 +6,7 @@ mod FlangeBounded
 mod RoundedLoads
 mod Accuracy
 mod Exactness
+mod EveryCauseChecked
 mod SizedOrRefused
 mod AnswerInNumbers
 mod AnswersExact

@@ -4,7 +4,7 @@ use Prim.Native.Nat.{ℕ, _+_, _-_, _*_, _≤_}
 use native.Mathlib.Nat.{mul-le-mul}
 use native.Mathlib.Omega.{arith}
 use Rattle.rules.specs.Bounds.{mostPressure, mostStress, mostDiameter, mostLever, mostEffectiveWidth, mostFactor}
-use Rattle.rules.specs.Bounds.{mostArea, mostBoltStress, mostGasketLoad, mostLoad, BoltsWithin}
+use Rattle.rules.specs.Bounds.{mostArea, mostBoltStress, mostGasketLoad, mostLoad, BoltsBounded}
 
 -- of the operating and the seating load
 pub record RingProducts (g b m p : ℕ) : Type 0 where
@@ -43,7 +43,7 @@ pub record BoltProducts (operating seating area sa sb : ℕ) : Type 0 where
 
 pub bolt-products :
     {operating seating area sa sb : ℕ} →
-    BoltsWithin operating seating area sa sb →
+    BoltsBounded operating seating area sa sb →
     BoltProducts operating seating area sa sb
 bolt-products h = record {
   operating-sa = mul-le-mul (h .0) (h .3);

@@ -13,7 +13,7 @@ use Rattle.limits.specs.Causes.{firstOf, firstCause, ofNumbers, ofBolting, ofLo
 use Rattle.limits.specs.Limits.{endplateCauses, flangeLimits, boltingLimits}
 use Rattle.limits.specs.declared.EndplateSheet.{EndplateSheet}
 use Rattle.limits.specs.declared.BlindFlangeSheet.{BlindFlangeSheet}
-use Rattle.limits.specs.Laws.{limit, none-of-both}
+use Rattle.limits.specs.Laws.{cause-fails, none-of-both}
 use Rattle.rules.specs.Bounds.{mostPressure, mostDiameter, mostAllowance, mostEffectiveWidth, mostFactor}
 use Rattle.rules.specs.Bounds.{mostBolts, mostArea, mostBoltStress}
 use Rattle.rules.specs.Gasket.{effectiveWidth, reactionDiameter}
@@ -31,7 +31,7 @@ pub record EndplateWithin (s : EndplateSheet) : Type 0 where
 pub endplate-within : (s : EndplateSheet) → firstCause (endplateCauses s) ≡ 0 → EndplateWithin s
 unfolding endplateCauses
 endplate-within s e =
-    let n = limit (endplateCauses s) e in
+    let n = cause-fails (endplateCauses s) e in
     record {
       pressure = let h = n 3 tt 1 in omega (arith, ltb-false);
       stressed = eqb-false _ _ (n 5 tt 0);
@@ -53,7 +53,7 @@ pub record FlangeWithin (s : BlindFlangeSheet) : Type 0 where
 pub flange-within : (s : BlindFlangeSheet) → firstCause (flangeLimits s) ≡ 0 → FlangeWithin s
 unfolding flangeLimits
 flange-within s e =
-    let n = limit (flangeLimits s) e in
+    let n = cause-fails (flangeLimits s) e in
     record {
       pressure = let h = n 3 tt 1 in omega (arith, ltb-false);
       stressed = eqb-false _ _ (n 5 tt 0);
@@ -85,7 +85,7 @@ pub bolting-within :
     (s : BlindFlangeSheet) → firstCause (boltingLimits s (reactionDiameter (s .od) (s .width))) ≡ 0 → BoltingWithin s
 unfolding boltingLimits
 bolting-within s e =
-    let n = limit (boltingLimits s (reactionDiameter (s .od) (s .width))) e in
+    let n = cause-fails (boltingLimits s (reactionDiameter (s .od) (s .width))) e in
     record {
       area =
           let bolt = n 10 tt 1 in

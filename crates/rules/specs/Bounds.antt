@@ -60,6 +60,6 @@ mostThickness = 2 ^ 32
 
 -- ---- what the functions of the bolts ask
 
-abbrev pub BoltsWithin : ℕ → ℕ → ℕ → ℕ → ℕ → Type 0
-BoltsWithin Wm1 Wm2 A sa sb =
+abbrev pub BoltsBounded : ℕ → ℕ → ℕ → ℕ → ℕ → Type 0
+BoltsBounded Wm1 Wm2 A sa sb =
     (Wm1 ≤ mostGasketLoad) × (Wm2 ≤ mostGasketLoad) × (A ≤ mostArea) × (sa ≤ mostBoltStress) × (sb ≤ mostBoltStress)

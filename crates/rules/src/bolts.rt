@@ -1,6 +1,6 @@
 // The bolts: their area, and whether they carry.
 ghost use mathlib.Core.Path.{_≡_};
-ghost use Rattle.rules.specs.Bounds.{BoltsWithin};
+ghost use Rattle.rules.specs.Bounds.{BoltsBounded};
 ghost use Rattle.rules.specs.Bolts.{boltArea, boltsSufficient};
 
 // A, in tenths of mm².
@@ -12,7 +12,7 @@ pub(crate) fn bolt_area(root: u32, count: u32) -> u64
 
 // The bolts of this area carry Wm1 at design temperature and Wm2 cold.
 pub(crate) fn bolts_sufficient(operating: u64, seating: u64, area: u64, sa: u32, sb: u32) -> bool
-    requires { ⌜ BoltsWithin operating seating area sa sb ⌝ }
+    requires { ⌜ BoltsBounded operating seating area sa sb ⌝ }
     ensures { λ r. ⌜ r ≡ boltsSufficient operating seating area sa sb ⌝ }
 {
     (10 * operating <= area * (sb as u64)) & (10 * seating <= area * (sa as u64))

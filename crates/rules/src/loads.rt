@@ -2,7 +2,7 @@
 use crate::compare::greater;
 ghost use mathlib.Core.Path.{_≡_};
 ghost use Prim.Native.Nat.{_≤_};
-ghost use Rattle.rules.specs.Bounds.{mostPressure, mostDiameter, mostEffectiveWidth, mostFactor, BoltsWithin};
+ghost use Rattle.rules.specs.Bounds.{mostPressure, mostDiameter, mostEffectiveWidth, mostFactor, BoltsBounded};
 ghost use Rattle.rules.specs.Loads.{exactOperatingLoad, exactSeatingLoad};
 ghost use Rattle.rules.specs.Loads.{operatingLoad, seatingLoad, flangeLoad};
 
@@ -28,7 +28,7 @@ pub(crate) fn seating_load(g: u32, b: u64, y: u32) -> u64
 
 // W, of Wm1, Wm2, A and the bolt stresses.
 pub(crate) fn flange_load(operating: u64, seating: u64, area: u64, sa: u32, sb: u32) -> u64
-    requires { ⌜ BoltsWithin operating seating area sa sb ⌝ }
+    requires { ⌜ BoltsBounded operating seating area sa sb ⌝ }
     ensures { λ r. ⌜ r ≡ flangeLoad operating seating area sa sb ⌝ }
 {
     let sa = sa as u64;

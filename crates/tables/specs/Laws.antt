@@ -8,7 +8,7 @@ use native.Mathlib.Omega.{arith}
 use borrow.Author.Tests.{lt-leb}
 use lib.Dec.{T, leb, eqb, leb→le, le→leb, eqb→eq}
 use lib.ListN.{length, getD, List·getD-eq-default}
-use Rattle.tables.specs.DesignStress.{designStress, column, firstNotBelow, rowOf, table1, limits}
+use Rattle.tables.specs.DesignStress.{designStress, column, firstNotBelow, rowOf, table1, columnLimits}
 use Rattle.tables.specs.TableRule.{every, at, both, other}
 
 -- the stress is an entry of the material's row, that of the column read: none lies between two columns
@@ -39,7 +39,7 @@ past-columns m t h = in-table m t ∙ List·getD-eq-default (rowOf m) 0 (omega (
 
 pub too-hot : (m t : ℕ) → 300 < t → designStress m t ≡ 0
 unfolding column
-too-hot m t h = past-columns m t (omega (arith, past-limits t 300 limits tt h))
+too-hot m t h = past-columns m t (omega (arith, past-limits t 300 columnLimits tt h))
 
 -- the entry that the code reads
 pub entry : (m t : ℕ) → m ≢ 0 → designStress m t ≡ getD (getD table1 (m - 1) []) (column t) 0

@@ -6,7 +6,8 @@ use borrow.Author.Needs.{needs}
 use Rattle.limits.specs.Stress.{endplateStress}
 use Rattle.limits.specs.Causes.{Tests, any, firstOf}
 use Rattle.limits.specs.Limits.{formRefused, materialRefused, shellRefused, noStress, endplateCauses}
-use Rattle.limits.proofs.CauseByCause.{in-order, next-cause, via, any-append}
+use Rattle.limits.specs.Laws.{any-append}
+use Rattle.limits.proofs.CauseByCause.{in-order, next-cause, via}
 use Rattle.limits.proofs.causes.endplate_cause.Statement.{statement}
 use Rattle.limits.proofs.causes.endplate_cause.Tie as tie
 
