@@ -17,8 +17,8 @@ use Rattle.text.specs.Plates.{numbersListed, platesOf}
 use Rattle.text.specs.Printed.{printed}
 use Rattle.text.specs.declared.number.Number.{Number}
 use Rattle.text.specs.declared.number.Number.the-variants.{Value}
-use Rattle.sheet.specs.Fields.{lineOf}
-use Rattle.sheet.specs.Lines.{platesLine, linesOf}
+use Rattle.lines.specs.Fields.{lineOf}
+use Rattle.lines.specs.Lines.{platesLine, linesOf}
 use Rattle.sheet.specs.Sheet.{endplate, partOf, sheetOf, answerOf}
 use Rattle.sheet.specs.Outcome.{lengthFor}
 use Rattle.cases.proofs.EmptyPrograms.{Program, leaves, DemandThree, endAt, end-1080, end-1081, not-refused}

@@ -26,8 +26,8 @@ use Rattle.text.specs.Number.{numberOf}
 use Rattle.text.specs.Plates.{numbersListed, platesOf}
 use Rattle.text.specs.Decimal.{decimal, numberLine}
 use Rattle.report.specs.Report.{reportText}
-use Rattle.sheet.specs.Fields.{lineOf}
-use Rattle.sheet.specs.Lines.{platesLine, linesOf}
+use Rattle.lines.specs.Fields.{lineOf}
+use Rattle.lines.specs.Lines.{platesLine, linesOf}
 use Rattle.sheet.specs.Sheet.{partOf, sheetOf, answerOf}
 
 -- the bytes of lines, each with its LF

@@ -11,8 +11,8 @@ use Rattle.text.specs.Padded.{padded}
 use Rattle.text.specs.Plates.{mostPlates, platesOf}
 use Rattle.text.specs.declared.number.Number.{Number}
 use Rattle.text.specs.declared.number.Number.the-variants.{Value, Malformed}
-use Rattle.sheet.specs.Fields.{Field, fieldOf}
-use Rattle.sheet.specs.declared.lines.SheetLines.{SheetLines}
+use Rattle.lines.specs.Fields.{Field, fieldOf}
+use Rattle.lines.specs.declared.SheetLines.{SheetLines}
 
 pub data Lines : Type 0 where
   -- the number of the first line that is absent, has a wrong key or value text or no LF, or follows the last

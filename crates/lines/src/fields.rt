@@ -8,8 +8,8 @@ ghost use Prim.Native.Nat.{_<_};
 ghost use mathlib.Core.Path.{_≡_};
 ghost use lib.ListN.{length, getD};
 ghost use Rattle.text.specs.Number.{numberOf};
-ghost use Rattle.sheet.specs.Fields.{formOf, lineOf, fieldOf, fieldsOf, noField};
-ghost use Rattle.sheet.specs.Fields.{endplateFields, blindFlangeFields};
+ghost use Rattle.lines.specs.Fields.{formOf, lineOf, fieldOf, fieldsOf, noField};
+ghost use Rattle.lines.specs.Fields.{endplateFields, blindFlangeFields};
 
 // form: a, c or d, as 1, 2, 3.
 fn read_form(v: &[u8]) -> Number

@@ -1,6 +1,8 @@
-// The lines of a sheet after the first.
-use crate::fields::field;
-use crate::fields::field_count;
+// The lines of a sheet after the first, from their bytes to numbers and plates.
+mod fields;
+
+use fields::field;
+use fields::field_count;
 use text::Number;
 use text::Plates;
 use text::is_line;
@@ -9,12 +11,12 @@ use text::next_line;
 use text::read_plates;
 use text::value;
 ghost use mathlib.Core.Path.{_≡_};
-ghost use Rattle.sheet.specs.Fields.{fieldsOf};
+ghost use Rattle.lines.specs.Fields.{fieldsOf};
 ghost use Rattle.text.specs.Plates.{platesHeld};
-ghost use Rattle.sheet.specs.Lines.{platesLine, linesOf, linesHeld, Lines};
+ghost use Rattle.lines.specs.Lines.{platesLine, linesOf, linesHeld, Lines};
 
 // The numbers of the fields, in order, and as many plates as `count` says; or the number of the first line at fault.
-pub(crate) struct SheetLines {
+pub struct SheetLines {
     pub ok: bool,
     pub fault: u32,
     pub values: [u32; 14],
@@ -45,7 +47,7 @@ fn plates_line(t: &[u8]) -> Plates
 }
 
 // The lines of a blind flange's sheet, or else of an endplate's, from the second on.
-pub(crate) fn read_lines(text: &[u8], blind: bool) -> SheetLines
+pub fn read_lines(text: &[u8], blind: bool) -> SheetLines
     ensures { λ r. ⌜ r ≡ linesHeld (linesOf 2 (fieldsOf blind) (now (text .entry))) ⌝ }
 {
     let fields = field_count(blind);

@@ -6,7 +6,7 @@ use mathlib.Core.Path.{_≡_, refl}
 use native.Mathlib.Omega.{arith}
 use lib.ListN.{length, take, getD, replicate, length-append}
 use lib.Seq.{take-append-seam}
-use Rattle.sheet.specs.Lines.{Lines, fault, given, linesHeld}
+use Rattle.lines.specs.Lines.{Lines, fault, given, linesHeld}
 use Rattle.sheet.specs.Sheet.{malformed, endplate, blindFlange, endplateSheet, blindFlangeSheet, read}
 
 -- zeros after a list are read like the places past it

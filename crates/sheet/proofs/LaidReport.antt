@@ -51,16 +51,16 @@ module _ {text d d' : List ℕ} {answer : Answer} {n : ℕ} (l : Laid text d ans
   unfolding spaceOf
   space = l .content ∙ rw known
 
-  pub exact : SheetExact text
-  exact = rw (← known) (report-exact (sheetOf text) answer (l .promised .1 .1))
+  pub laid-exact : SheetExact text
+  laid-exact = rw (← known) (report-exact (sheetOf text) answer (l .promised .1 .1))
 
-  pub short : length d < n → OutcomeTold text d (ShortSpace n)
+  pub short-told : length d < n → OutcomeTold text d (ShortSpace n)
   unfolding outcomeOf causeFor figureFor
-  short h = rw (← known, ← l .size, lt-leb n (length d) h) (refl, (refl, refl, refl, l .promised .1 .0 .2))
+  short-told h = rw (← known, ← l .size, lt-leb n (length d) h) (refl, (refl, refl, refl, l .promised .1 .0 .2))
 
-  pub fits : {a : Answer} → answer ≡ a → n ≤ length d → OutcomeTold text d (written a n)
+  pub written-told : {a : Answer} → answer ≡ a → n ≤ length d → OutcomeTold text d (written a n)
   unfolding outcomeOf causeFor figureFor
-  fits {a} e h =
+  written-told {a} e h =
       let numbers = l .promised .1 .0 in
       let w = written-numbers a n in
       rw (← known, ← l .size, le-leb n (length d) h, ← numbers .0, ← numbers .1, e)

@@ -12,8 +12,8 @@ use Rattle.rules.specs.declared.Answer.{Answer}
 use Rattle.rules.specs.declared.Answer.the-variants.{Refused}
 use Rattle.text.specs.Ascii.{ascii, lineFeed}
 use Rattle.text.specs.Line.{same, isLine, valueOf, after}
-use Rattle.sheet.specs.Fields.{fieldsOf}
-use Rattle.sheet.specs.Lines.{Lines, fault, given, linesOf}
+use Rattle.lines.specs.Fields.{fieldsOf}
+use Rattle.lines.specs.Lines.{Lines, fault, given, linesOf}
 
 pub data Sheet : Type 0 where
   -- the number of the first line at fault

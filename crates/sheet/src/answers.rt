@@ -1,5 +1,5 @@
 // The answer to a sheet: cause 1 with the line at fault, or what the rules say of its numbers.
-use crate::lines::read_lines;
+use lines::read_lines;
 use rules::Answer;
 use rules::BlindFlangeSheet;
 use rules::EndplateSheet;

@@ -1,7 +1,5 @@
 // A sheet of key=value lines from its bytes to its report.
 mod answers;
-mod fields;
-mod lines;
 
 use answers::answer_to;
 use rules::Answer;

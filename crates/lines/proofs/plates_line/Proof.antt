@@ -1,8 +1,8 @@
--- `lines::plates_line` meets its contract. Assumes nothing.
+-- `plates_line` meets its contract. Assumes nothing.
 use borrow.Author.Needs.{needs}
-use Rattle.sheet.specs.Lines.{platesLine}
-use Rattle.sheet.proofs.lines.plates_line.Statement.{statement}
-use Rattle.sheet.proofs.lines.plates_line.Tie as tie
+use Rattle.lines.specs.Lines.{platesLine}
+use Rattle.lines.proofs.plates_line.Statement.{statement}
+use Rattle.lines.proofs.plates_line.Tie as tie
 
 returns : tie.Need-returns
 unfolding platesLine

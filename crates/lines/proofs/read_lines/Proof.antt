@@ -1,4 +1,4 @@
--- `lines::read_lines` meets its contract. Assumes nothing.
+-- `read_lines` meets its contract. Assumes nothing.
 use Prim.Native.Nat.{ℕ, _+_, _-_, _≤_}
 use mathlib.Core.Bool.{Bool, true, false}
 use mathlib.Core.Path.{_≡_, refl, sym, ap, _∙_}
@@ -11,12 +11,12 @@ use Rattle.text.specs.Line.{after}
 use Rattle.text.specs.Plates.{platesHeld}
 use Rattle.text.specs.declared.plates.Plates.{Plates}
 use Rattle.text.specs.Laws.Padded.{zeros-after}
-use Rattle.sheet.specs.Fields.{fieldsOf}
-use Rattle.sheet.specs.Lines.{fault, platesLine, lastLine, linesOf, mostFields, linesHeld}
-use Rattle.sheet.proofs.LineByLine.{prepend, prepend-nothing, fields-fit, line-fault, line-more}
-use Rattle.sheet.proofs.LineByLine.{lines-last, last-fault, last-more, last-given, linesHeld-fault}
-use Rattle.sheet.proofs.lines.read_lines.Statement.{statement}
-use Rattle.sheet.proofs.lines.read_lines.Tie as tie
+use Rattle.lines.specs.Fields.{fieldsOf}
+use Rattle.lines.specs.Lines.{fault, platesLine, lastLine, linesOf, mostFields, linesHeld}
+use Rattle.lines.proofs.LineByLine.{prepend, prepend-nothing, fields-fit, line-fault, line-more}
+use Rattle.lines.proofs.LineByLine.{lines-last, last-fault, last-more, last-given, linesHeld-fault}
+use Rattle.lines.proofs.read_lines.Statement.{statement}
+use Rattle.lines.proofs.read_lines.Tie as tie
 
 -- the numbers read so far and the rest of the text give the whole; past the numbers the array is 0
 abbrev Inv-loop : tie.InvT-loop

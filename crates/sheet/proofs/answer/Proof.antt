@@ -7,7 +7,7 @@ use Rattle.report.specs.Report.{longest}
 use Rattle.sheet.specs.Sheet.{answerOf}
 use Rattle.sheet.specs.Outcome.{spaceOf}
 use Rattle.sheet.specs.Exact.{SheetExact}
-use Rattle.sheet.proofs.LaidReport.{Laid, space, short, fits, exact}
+use Rattle.sheet.proofs.LaidReport.{Laid, space, short-told, written-told, laid-exact}
 use Rattle.sheet.proofs.answer.Statement.{statement}
 use Rattle.sheet.proofs.answer.Tie as tie
 
@@ -29,30 +29,30 @@ left : (c : tie.After-write)
     → let s = c .before .before .before .before .before in
     (c .write .last .1 .0 ≡ spaceOf (s .args .text .now) (s .args .out .now))
     × (SheetExact (s .args .text .now) × (c .write .result ≤ longest))
-left c = let l = laid-out c in (space l, (exact l, c .write .ensures .1 .1))
+left c = let l = laid-out c in (space l, (laid-exact l, c .write .ensures .1 .1))
 
 returns : tie.Need-returns
 returns c =
     let w = c .before .before .before in
-    let t = short (laid-out w) (omega arith) in
+    let t = short-told (laid-out w) (omega arith) in
     (t .0, (t .1, left w))
 
 returns-2 : tie.Need-returns-2
 returns-2 c =
     let w = c .before .before .before .before .before in
-    let t = fits (laid-out w) (c .enum-told .given .1) (omega arith) in
+    let t = written-told (laid-out w) (c .enum-told .given .1) (omega arith) in
     (t .0, (t .1, left w))
 
 returns-3 : tie.Need-returns-3
 returns-3 c =
     let w = c .before .before .before .before .before in
-    let t = fits (laid-out w) (c .enum-told2 .given .1) (omega arith) in
+    let t = written-told (laid-out w) (c .enum-told2 .given .1) (omega arith) in
     (t .0, (t .1, left w))
 
 returns-4 : tie.Need-returns-4
 returns-4 c =
     let w = c .before .before .before .before .before .before in
-    let t = fits (laid-out w) (c .before .answer .given .1) (omega arith) in
+    let t = written-told (laid-out w) (c .before .answer .given .1) (omega arith) in
     (t .0, (t .1, left w))
 
 pub answer-spec : {M : Type 1} → statement M

@@ -2,9 +2,9 @@
 use mathlib.Core.Path.{_≡_}
 use native.Mathlib.Omega.{arith}
 use borrow.Author.Needs.{needs}
-use Rattle.sheet.proofs.LastArm.{past-all}
-use Rattle.sheet.proofs.fields.blind_flange_field.Statement.{statement}
-use Rattle.sheet.proofs.fields.blind_flange_field.Tie as tie
+use Rattle.lines.proofs.LastArm.{past-all}
+use Rattle.lines.proofs.fields.blind_flange_field.Statement.{statement}
+use Rattle.lines.proofs.fields.blind_flange_field.Tie as tie
 
 last : tie.Need-returns-14
 last c =

@@ -1,6 +1,6 @@
 -- `fields::field` meets its contract. Assumes nothing.
-use Rattle.sheet.proofs.fields.field.Statement.{statement}
-use Rattle.sheet.proofs.fields.field.Tie as tie
+use Rattle.lines.proofs.fields.field.Statement.{statement}
+use Rattle.lines.proofs.fields.field.Tie as tie
 
 blind-flange-requires : tie.Need-blind-flange-field-requires
 blind-flange-requires c κs = rw (c .if1 .taken) at (c .before .before .pre)

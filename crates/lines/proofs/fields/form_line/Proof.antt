@@ -1,9 +1,9 @@
 -- `fields::form_line` meets its contract. Assumes nothing.
 use borrow.Author.Needs.{needs}
-use Rattle.sheet.specs.Fields.{formOf}
-use Rattle.sheet.proofs.LineByLine.{line-read, line-not}
-use Rattle.sheet.proofs.fields.form_line.Statement.{statement}
-use Rattle.sheet.proofs.fields.form_line.Tie as tie
+use Rattle.lines.specs.Fields.{formOf}
+use Rattle.lines.proofs.LineByLine.{line-read, line-not}
+use Rattle.lines.proofs.fields.form_line.Statement.{statement}
+use Rattle.lines.proofs.fields.form_line.Tie as tie
 
 returns : tie.Need-returns
 returns c =

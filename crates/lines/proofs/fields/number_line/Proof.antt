@@ -1,9 +1,9 @@
 -- `fields::number_line` meets its contract. Assumes nothing.
 use borrow.Author.Needs.{needs}
 use Rattle.text.specs.Number.{numberOf}
-use Rattle.sheet.proofs.LineByLine.{line-read, line-not}
-use Rattle.sheet.proofs.fields.number_line.Statement.{statement}
-use Rattle.sheet.proofs.fields.number_line.Tie as tie
+use Rattle.lines.proofs.LineByLine.{line-read, line-not}
+use Rattle.lines.proofs.fields.number_line.Statement.{statement}
+use Rattle.lines.proofs.fields.number_line.Tie as tie
 
 returns : tie.Need-returns
 returns c =

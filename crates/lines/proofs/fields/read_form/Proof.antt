@@ -1,7 +1,7 @@
 -- `fields::read_form` meets its contract. Assumes nothing.
 use borrow.Author.Needs.{needs}
-use Rattle.sheet.proofs.fields.read_form.Statement.{statement}
-use Rattle.sheet.proofs.fields.read_form.Tie as tie
+use Rattle.lines.proofs.fields.read_form.Statement.{statement}
+use Rattle.lines.proofs.fields.read_form.Tie as tie
 
 returns : tie.Need-returns
 returns c = rw (← c .before .is-word .ensures, c .if1 .taken)

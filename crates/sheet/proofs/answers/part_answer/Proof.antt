@@ -8,10 +8,10 @@ use lib.ListN.{length}
 use lib.Seq.{length-take-le}
 use Rattle.text.specs.Ascii.{lineFeed}
 use Rattle.text.specs.Line.{after}
-use Rattle.sheet.specs.Fields.{fieldsOf}
-use Rattle.sheet.specs.Lines.{Lines, linesOf, linesHeld}
+use Rattle.lines.specs.Fields.{fieldsOf}
+use Rattle.lines.specs.Lines.{Lines, linesOf, linesHeld}
 use Rattle.sheet.specs.Sheet.{endplate, blindFlange, read, partOf}
-use Rattle.sheet.specs.declared.lines.SheetLines.{SheetLines}
+use Rattle.lines.specs.declared.SheetLines.{SheetLines}
 use Rattle.sheet.proofs.HandedBack.{malformed-read, endplate-read, flange-read, count-fits}
 use Rattle.sheet.proofs.Answered.{malformed-answered, answered-as}
 use Rattle.sheet.proofs.answers.part_answer.Statement.{statement}

@@ -1,0 +1,3 @@
+-- What the contracts of lines cite.
+pub mod Fields
+pub mod Lines
