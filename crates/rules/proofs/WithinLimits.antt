@@ -3,7 +3,7 @@
 use mathlib.Core.Path.{_≡_}
 use mathlib.Core.Logic.{_≢_}
 use mathlib.Core.List.{_++_}
-use Prim.Native.Nat.{ℕ, _*_, _≤_}
+use Prim.Native.Nat.{ℕ, _*_, _/_, _≤_}
 use native.Mathlib.Nat.{mul-le-mul}
 use native.Mathlib.Omega.{arith}
 use borrow.Author.Tests.{ltb-false, eqb-false}
@@ -78,7 +78,7 @@ pub record BoltingWithin (s : BlindFlangeSheet) : Type 0 where
 area-most :
     (bolt root count : ℕ) → bolt ≤ mostBolts → 100 * root ≤ 785 * (bolt * bolt) → count ≤ mostBolts → count * root ≤ mostArea
 area-most bolt root count hb hr hc =
-    let root-most : root ≤ 128614 = omega (arith, mul-le-mul hb hb) in
+    let root-most : root ≤ 785 * (mostBolts * mostBolts) / 100 = omega (arith, mul-le-mul hb hb) in
     omega (arith, mul-le-mul hc root-most)
 
 pub bolting-within :
