@@ -21,7 +21,6 @@ no false t = refl
 
 -- ---- tests one after another
 
--- of tests one after another, one holds if one of the first or one of the others does
 or-assoc : (a b c : Bool) → ((a || b) || c) ≡ (a || (b || c))
 or-assoc true b c = refl
 or-assoc false b c = refl
@@ -38,6 +37,7 @@ onto : (a : Bool) (ss ts : Tests) → foldl _||_ a (ss ++ ts) ≡ foldl _||_ (fo
 onto a [] ts = refl
 onto a (s ∷ ss) ts = onto (a || s) ss ts
 
+-- one holds if one of the first or one of the others does
 pub any-append : (ss ts : Tests) → any (ss ++ ts) ≡ (any ss || any ts)
 any-append ss ts = onto false ss ts ∙ from (any ss) ts
 
