@@ -4,9 +4,10 @@ use mathlib.Core.Bool.{Bool, true, false, cond}
 use mathlib.Core.List.{List, [], _∷_}
 use Prim.Native.Nat.{ℕ}
 use lib.Dec.{T, eqb}
+use lib.Ieee.Bits.{is-false}
 use Rattle.tables.specs.TableRule.{every, both}
 use Rattle.limits.specs.Causes.{Tests, any, Causes, testsOf, firstOf}
-use Rattle.limits.specs.Laws.{numbered, no}
+use Rattle.limits.specs.Laws.{numbered}
 
 -- the cause found so far, else this one if it applies: what or_cause answers
 abbrev pub orCause : ℕ → ℕ → Bool → ℕ
@@ -20,7 +21,7 @@ found k (n ∷ ns) cs = found (orCause k n (any (testsOf cs n))) ns cs
 -- a cause once found stays
 kept : (k : ℕ) (ns : List ℕ) (cs : Causes) → T (numbered k) → found k ns cs ≡ k
 kept k [] cs e = refl
-kept k (n ∷ ns) cs e = rw (no (eqb k 0) e) (kept k ns cs e)
+kept k (n ∷ ns) cs e = rw (is-false (eqb k 0) e) (kept k ns cs e)
 
 pub in-order : (ns : List ℕ) (cs : Causes) → T (every numbered ns) → found 0 ns cs ≡ firstOf ns cs
 unfolding firstOf

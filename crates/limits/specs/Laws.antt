@@ -2,11 +2,13 @@
 -- the numbers to rise. Assumes nothing.
 use mathlib.Core.Path.{_≡_, refl, sym, ap, subst, _∙_}
 use mathlib.Core.Logic.{_≢_}
-use mathlib.Core.Bool.{Bool, true, false, not, _||_, cond, true≢false}
-use mathlib.Core.List.{List, [], _∷_, _++_, foldl, List·Memᴰ, List·Memᴰ·head, List·Memᴰ·tail, List·Memᴰ·not-nil}
+use mathlib.Core.Bool.{Bool, true, false, not, _||_, cond, or-assoc, or-false}
+use mathlib.Mathlib.Data.Bool.Basic.{or-eq-false-eq-eq-false-and-eq-false}
+use mathlib.Core.List.{List, [], _∷_, _++_, foldl, foldl-append, List·Memᴰ, List·Memᴰ·head, List·Memᴰ·tail, List·Memᴰ·not-nil}
 use Prim.Native.Nat.{ℕ, zero, suc}
 use borrow.Author.Tests.{eqb-true, eqb-false}
 use lib.Dec.{T, eqb, T-not}
+use lib.Ieee.Bits.{is-false}
 use lib.ListN.{getD}
 use Rattle.tables.specs.TableRule.{every, both}
 use Rattle.limits.specs.Causes.{Tests, any, Causes, testsOf, firstOf, checkingOrder, firstCause}
@@ -15,31 +17,15 @@ use Rattle.limits.specs.Causes.{Tests, any, Causes, testsOf, firstOf, ch
 abbrev pub numbered : ℕ → Bool
 numbered number = not (eqb number 0)
 
-pub no : (b : Bool) → T (not b) → b ≡ false
-no true t = absurd t
-no false t = refl
-
 -- ---- tests one after another
-
-or-assoc : (a b c : Bool) → ((a || b) || c) ≡ (a || (b || c))
-or-assoc true b c = refl
-or-assoc false b c = refl
-
-or-false : (a : Bool) → (a || false) ≡ a
-or-false true = refl
-or-false false = refl
 
 from : (a : Bool) (ts : Tests) → foldl _||_ a ts ≡ (a || any ts)
 from a [] = sym (or-false a)
 from a (t ∷ ts) = from (a || t) ts ∙ or-assoc a t (any ts) ∙ ap (λ (b : Bool). a || b) (sym (from t ts))
 
-onto : (a : Bool) (ss ts : Tests) → foldl _||_ a (ss ++ ts) ≡ foldl _||_ (foldl _||_ a ss) ts
-onto a [] ts = refl
-onto a (s ∷ ss) ts = onto (a || s) ss ts
-
 -- one holds if one of the first or one of the others does
 pub any-append : (ss ts : Tests) → any (ss ++ ts) ≡ (any ss || any ts)
-any-append ss ts = onto false ss ts ∙ from (any ss) ts
+any-append ss ts = foldl-append _||_ false ss ts ∙ from (any ss) ts
 
 -- ---- part by part
 
@@ -52,7 +38,7 @@ unfolding firstOf
 in-turn [] ms cs t = refl
 in-turn (n ∷ ns) ms cs t =
     let p = both (numbered n) (every numbered ns) t in
-    by-test (any (testsOf cs n)) (no (eqb n 0) (p .0)) (in-turn ns ms cs (p .1))
+    by-test (any (testsOf cs n)) (is-false (eqb n 0) (p .0)) (in-turn ns ms cs (p .1))
   where
     by-test :
         (b : Bool) →
@@ -89,7 +75,7 @@ unfolding firstOf
 not-among number [] cs h t e = h (sym e)
 not-among number (n ∷ ns) cs h t e =
     let p = both (not (eqb n number)) (every (λ n. not (eqb n number)) ns) t in
-    by-test (any (testsOf cs n)) (eqb-false n number (no _ (p .0))) (not-among number ns cs h (p .1)) e
+    by-test (any (testsOf cs n)) (eqb-false n number (is-false _ (p .0))) (not-among number ns cs h (p .1)) e
   where
     by-test :
         (b : Bool) → n ≢ number → firstOf ns cs ≢ number → cond b n (firstOf ns cs) ≡ number → ⊥
@@ -98,16 +84,12 @@ not-among number (n ∷ ns) cs h t e =
 
 -- ---- where there is none
 
-first-fails : (a b : Bool) → (a || b) ≡ false → (a ≡ false) × (b ≡ false)
-first-fails true b e = absurd (true≢false e)
-first-fails false b e = (refl, e)
-
 -- of tests none of which holds, each one fails
 each : (b : Bool) (ts : Tests) → foldl _||_ b ts ≡ false → (b ≡ false) × ((j : ℕ) → getD ts j false ≡ false)
 each b [] e = (e, λ j. refl)
 each b (t ∷ ts) e =
     let rest = each (b || t) ts e in
-    let p = first-fails b t (rest .0) in
+    let p = or-eq-false-eq-eq-false-and-eq-false b t .0 (rest .0) in
     (p .0, at (p .1) (rest .1))
   where
     at : t ≡ false → ((j : ℕ) → getD ts j false ≡ false) → (j : ℕ) → getD (t ∷ ts) j false ≡ false
@@ -170,7 +152,7 @@ checked c = among (c .0) checkingOrder
 
 -- of tests one after another none of which holds, none of the first and none of the others does
 both-fail : (ss ts : Tests) → any (ss ++ ts) ≡ false → (any ss ≡ false) × (any ts ≡ false)
-both-fail ss ts f = first-fails _ _ (sym (any-append ss ts) ∙ f)
+both-fail ss ts f = or-eq-false-eq-eq-false-and-eq-false (any ss) (any ts) .0 (sym (any-append ss ts) ∙ f)
 
 rest-fails : (b : Bool) (ss ts : Tests) → any (cond b (ss ++ ts) ts) ≡ false → any ts ≡ false
 rest-fails true ss ts f = both-fail ss ts f .1
