@@ -5,7 +5,7 @@
  */
 #define _POSIX_C_SOURCE 199309L
 
-#include "numbers.h"
+#include "archive.h"
 #include "scantling.h"
 #include "sheets.h"
 
@@ -26,12 +26,12 @@
 struct input {
     uint32_t n[BLIND_NUMBERS];
     uint8_t plates[4 * PLATES];
+    struct text sheet;
 };
-static struct input endplates[INPUTS], flanges[INPUTS];
-static struct text sheets[INPUTS]; /* the endplates and the flanges by turns */
+static struct input inputs[PARTS][INPUTS];
 static uint64_t long_numbers[INPUTS], short_numbers[INPUTS];
 
-static void draw_input(struct rng *rng, enum part part, struct input *input, struct text *text)
+static void draw_input(struct rng *rng, enum part part, struct input *input)
 {
     static struct question question;
     const struct wish nothing = wish_nothing();
@@ -40,20 +40,18 @@ static void draw_input(struct rng *rng, enum part part, struct input *input, str
         draw_numbers(rng, part, &nothing, &question);
         draw_plates(rng, PLATES, PLATES, &question);
         question_figures(&question, figures);
-    } while (figures[PLACE_CAUSE] != 0);
+    } while (figures[PLACE_CAUSE] != CAUSE_NONE);
     memcpy(input->n, question.numbers, sizeof input->n);
-    for (size_t i = 0; i < sizeof input->plates; i++)
-        input->plates[i] = (uint8_t)(question.plates[i / 4] >> 8 * (i % 4));
-    write_sheet(&question, text);
+    pack_plates(question.plates, PLATES, input->plates);
+    write_sheet(&question, &input->sheet);
 }
 
 static void draw_inputs(void)
 {
-    static struct text unused;
     struct rng rng = {8532};
     for (size_t i = 0; i < INPUTS; i++) {
-        draw_input(&rng, PART_END, &endplates[i], i % 2 == 0 ? &sheets[i] : &unused);
-        draw_input(&rng, PART_BLIND, &flanges[i], i % 2 == 0 ? &unused : &sheets[i]);
+        for (enum part part = PART_NONE + 1; part < PARTS; part++)
+            draw_input(&rng, part, &inputs[part][i]);
         long_numbers[i] = rng_of_length(&rng, rng_below(&rng, 65));
         short_numbers[i] = rng_of_length(&rng, 16 + rng_below(&rng, 19));
     }
@@ -61,74 +59,53 @@ static void draw_inputs(void)
 
 /* ---- One pass over the inputs; the sum of what was found ---- */
 
-static uint64_t archive_endplates(void)
+/* The plates chosen. */
+static uint64_t archive_pass(enum part part, uint32_t plate_place)
 {
     uint64_t sum = 0;
-    for (size_t i = 0; i < INPUTS; i++) {
-        const uint32_t *n = endplates[i].n;
-        sum += scantling_endplate(
-            n[0], n[1], n[2], n[3], n[4], n[5], n[6], endplates[i].plates, 4 * PLATES, SCANTLING_ENDPLATE_PLATE);
-    }
+    for (size_t i = 0; i < INPUTS; i++)
+        sum += archive_calls[part].figure(inputs[part][i].n, inputs[part][i].plates, 4 * PLATES, plate_place);
     return sum;
 }
 
-static uint64_t separate_endplates(void)
+static uint64_t separate_pass(enum part part, uint32_t plate_place)
 {
     uint64_t sum = 0, figures[PAPER_PLACES];
     uint32_t plates[PLATES];
     for (size_t i = 0; i < INPUTS; i++) {
-        size_t count = paper_plates(endplates[i].plates, 4 * PLATES, plates, PLATES);
-        paper_endplate(endplates[i].n, plates, count, figures);
-        sum += figures[END_PLATE_PLACE];
-    }
-    return sum;
-}
-
-static uint64_t archive_flanges(void)
-{
-    uint64_t sum = 0;
-    for (size_t i = 0; i < INPUTS; i++) {
-        const uint32_t *n = flanges[i].n;
-        sum += scantling_blind_flange(
-            n[0], n[1], n[2], n[3], n[4], n[5], n[6], n[7], n[8], n[9], n[10], n[11], n[12], n[13], flanges[i].plates,
-            4 * PLATES, SCANTLING_BLIND_FLANGE_PLATE);
-    }
-    return sum;
-}
-
-static uint64_t separate_flanges(void)
-{
-    uint64_t sum = 0, figures[PAPER_PLACES];
-    uint32_t plates[PLATES];
-    for (size_t i = 0; i < INPUTS; i++) {
-        size_t count = paper_plates(flanges[i].plates, 4 * PLATES, plates, PLATES);
-        paper_blind_flange(flanges[i].n, plates, count, figures);
-        sum += figures[BLIND_PLATE_PLACE];
+        size_t count = paper_plates(inputs[part][i].plates, 4 * PLATES, plates, PLATES);
+        paper_parts[part].work(inputs[part][i].n, plates, count, figures);
+        sum += figures[plate_place];
     }
     return sum;
 }
 
 /* Length and last digit of the reports. */
-static uint64_t all_sheets(size_t (*answer)(const uint8_t *, size_t, uint8_t *, size_t))
+static uint64_t sheets_pass(enum part part, size_t (*answer)(const uint8_t *, size_t, uint8_t *, size_t))
 {
     uint8_t report[SCANTLING_LONGEST_REPORT];
     uint64_t sum = 0;
     for (size_t i = 0; i < INPUTS; i++) {
-        size_t length = answer(sheets[i].bytes, sheets[i].length, report, sizeof report);
+        const struct text *sheet = &inputs[part][i].sheet;
+        size_t length = answer(sheet->bytes, sheet->length, report, sizeof report);
         sum += length + report[length - 2];
     }
     return sum;
 }
 
-static uint64_t archive_sheets(void)
-{
-    return all_sheets(scantling_sheet);
-}
-
-static uint64_t separate_sheets(void)
-{
-    return all_sheets(paper_sheet);
-}
+#define PASS(name, work)       \
+    static uint64_t name(void) \
+    {                          \
+        return work;           \
+    }
+PASS(archive_endplates, archive_pass(PART_END, SCANTLING_ENDPLATE_PLATE))
+PASS(separate_endplates, separate_pass(PART_END, END_PLATE_PLACE))
+PASS(archive_flanges, archive_pass(PART_BLIND, SCANTLING_BLIND_FLANGE_PLATE))
+PASS(separate_flanges, separate_pass(PART_BLIND, BLIND_PLATE_PLACE))
+PASS(archive_endplate_sheets, sheets_pass(PART_END, scantling_sheet))
+PASS(separate_endplate_sheets, sheets_pass(PART_END, paper_sheet))
+PASS(archive_flange_sheets, sheets_pass(PART_BLIND, scantling_sheet))
+PASS(separate_flange_sheets, sheets_pass(PART_BLIND, paper_sheet))
 
 static uint64_t search_root(uint64_t n)
 {
@@ -146,20 +123,20 @@ static uint64_t float_root(uint64_t n)
     return root;
 }
 
-#define ROOTS(name, root, numbers)             \
-    static uint64_t name(void)                 \
-    {                                          \
-        uint64_t sum = 0;                      \
-        for (size_t i = 0; i < INPUTS; i++)    \
-            sum += root(numbers[i]);           \
-        return sum;                            \
-    }
-ROOTS(archive_long_roots, scantling_least_root, long_numbers)
-ROOTS(separate_long_roots, search_root, long_numbers)
-ROOTS(float_long_roots, float_root, long_numbers)
-ROOTS(archive_short_roots, scantling_least_root, short_numbers)
-ROOTS(separate_short_roots, search_root, short_numbers)
-ROOTS(float_short_roots, float_root, short_numbers)
+static uint64_t roots_pass(const uint64_t *numbers, uint64_t (*root)(uint64_t))
+{
+    uint64_t sum = 0;
+    for (size_t i = 0; i < INPUTS; i++)
+        sum += root(numbers[i]);
+    return sum;
+}
+
+PASS(archive_long_roots, roots_pass(long_numbers, scantling_least_root))
+PASS(separate_long_roots, roots_pass(long_numbers, search_root))
+PASS(float_long_roots, roots_pass(long_numbers, float_root))
+PASS(archive_short_roots, roots_pass(short_numbers, scantling_least_root))
+PASS(separate_short_roots, roots_pass(short_numbers, search_root))
+PASS(float_short_roots, roots_pass(short_numbers, float_root))
 
 /* ---- Measuring ---- */
 
@@ -171,7 +148,8 @@ struct work {
 static const struct work works[] = {
     {"endplate calls", {archive_endplates, separate_endplates, NULL}},
     {"blind flange calls", {archive_flanges, separate_flanges, NULL}},
-    {"sheets, both parts", {archive_sheets, separate_sheets, NULL}},
+    {"endplate sheets", {archive_endplate_sheets, separate_endplate_sheets, NULL}},
+    {"blind flange sheets", {archive_flange_sheets, separate_flange_sheets, NULL}},
     {"least roots, 0 to 64 bits", {archive_long_roots, separate_long_roots, float_long_roots}},
     {"least roots, 16 to 34 bits", {archive_short_roots, separate_short_roots, float_short_roots}},
 };

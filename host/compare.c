@@ -27,13 +27,11 @@ static void differ(size_t number, const char *who, uint64_t figure)
 /* The document's figure in a report: of the cause and of an accepted report's line. */
 static uint64_t known_figure_in(const struct known *known, const uint8_t *report, size_t length)
 {
-    const char *const *keys = known->part == PART_END ? paper_end_report_keys : paper_blind_report_keys;
-    const char *key = known->place == PLACE_CAUSE ? "refused"
-                      : known->place == PLACE_FIGURE ? "place"
-                                                     : keys[known->place - PLACE_REPORT];
-    uint64_t figure = 0;
-    report_figure(report, length, key, &figure);
-    return figure;
+    if (known->place == PLACE_CAUSE)
+        return report_figure(report, length, "refused");
+    if (known->place == PLACE_FIGURE)
+        return report_figure(report, length, "place");
+    return report_figure(report, length, paper_parts[known->part].report_keys[known->place - PLACE_REPORT]);
 }
 
 static void compare_known_sheet(size_t number, const struct text *text)
@@ -52,14 +50,16 @@ static void compare_known_sheet(size_t number, const struct text *text)
 
 static void compare_known_case(struct compare *compare, size_t number)
 {
-    static const uint8_t plates[12] = {0xC4, 0x09, 0, 0, 0x80, 0x0C, 0, 0, 0xA0, 0x0F}; /* 2500, 3200, 4000 */
     static struct question question;
+    static uint8_t plates[4 * PLATES_ROOM];
     static struct text text;
     const struct known *known = &known_cases[number];
     uint64_t figures[PAPER_PLACES];
     known_question(known, &question);
     question_figures(&question, figures);
-    uint64_t archive = archive_figure(&question, plates, sizeof plates, known->place);
+    pack_plates(question.plates, question.plate_count, plates);
+    uint64_t archive =
+        archive_calls[known->part].figure(question.numbers, plates, 4 * question.plate_count, known->place);
     if (figures[known->place] != known->figure)
         differ(number, "the separate program", figures[known->place]);
     if (archive != known->figure)
@@ -155,11 +155,13 @@ static void compare_roots(struct compare *compare)
 
 /* ---- The program ---- */
 
-static void print_causes(const char *name, uint64_t flanges, const uint64_t causes[CAUSES])
+static void print_causes(const char *name, const uint64_t accepted[PARTS], const uint64_t causes[CAUSES])
 {
-    printf("%s: accepted %" PRIu64 ", %" PRIu64 " blind flanges among them; refused by cause", name, causes[0],
-           flanges);
-    for (int cause = 1; cause < CAUSES; cause++)
+    printf("%s: accepted", name);
+    for (enum part part = PART_NONE + 1; part < PARTS; part++)
+        printf(" %s:%" PRIu64, paper_parts[part].word, accepted[part]);
+    printf("; refused by cause");
+    for (int cause = CAUSE_NONE + 1; cause < CAUSES; cause++)
         printf(" %d:%" PRIu64, cause, causes[cause]);
     printf("\n");
 }
@@ -169,8 +171,8 @@ static void print_counts(const struct compare *compare)
     printf("%" PRIu64 " numeric calls, %" PRIu64 " sheets, %" PRIu64 " other spaces, %" PRIu64 " roots, %" PRIu64
            " accuracy checks\n",
            compare->calls, compare->sheets, compare->spaces, compare->roots, compare->accuracy);
-    print_causes("numeric questions", compare->question_flanges, compare->question_causes);
-    print_causes("sheets", compare->sheet_flanges, compare->sheet_causes);
+    print_causes("numeric questions", compare->question_accepted, compare->question_causes);
+    print_causes("sheets", compare->sheet_accepted, compare->sheet_causes);
     printf("no difference\n");
 }
 

@@ -2,10 +2,8 @@
 #ifndef COMPARE_H
 #define COMPARE_H
 
-#include "numbers.h"
+#include "archive.h"
 #include "sheets.h"
-
-#define CAUSES 16
 
 struct compare {
     struct rng rng;
@@ -14,13 +12,10 @@ struct compare {
     uint64_t spaces;   /* further calls with a sheet, in spaces of other lengths */
     uint64_t roots;
     uint64_t accuracy; /* accepted answers judged by the exact inequalities */
-    uint64_t question_flanges, sheet_flanges; /* accepted blind flanges */
-    uint64_t question_causes[CAUSES]; /* what the numeric calls were asked, by cause; 0 is accepted */
-    uint64_t sheet_causes[CAUSES];    /* likewise; 15 counts the short spaces */
+    uint64_t question_accepted[PARTS], sheet_accepted[PARTS];
+    uint64_t question_causes[CAUSES]; /* what the numeric calls were asked, by cause */
+    uint64_t sheet_causes[CAUSES];    /* likewise; CAUSE_SPACE counts the short spaces */
 };
-
-/* One figure from the archive. */
-uint64_t archive_figure(const struct question *question, const uint8_t *plates, size_t plates_length, uint32_t place);
 
 /* All places of a question or some of them. */
 void compare_question(struct compare *compare, const struct question *question);
@@ -34,9 +29,6 @@ void compare_drawn_sheet(struct compare *compare);
 void compare_spaces(struct compare *compare, const struct text *text);
 
 /* The number on the line of this key; 0 if the report has no such line. */
-int report_figure(const uint8_t *report, size_t length, const char *key, uint64_t *figure);
-
-/* The accuracy demand on an accepted answer. */
-int is_exact(enum part part, const uint32_t *numbers, uint64_t thickness, uint64_t edge_thickness);
+uint64_t report_figure(const uint8_t *report, size_t length, const char *key);
 
 #endif

@@ -16,33 +16,13 @@ struct asking {
     uint64_t figures[PAPER_PLACES];
 };
 
-int is_exact(enum part part, const uint32_t *numbers, uint64_t thickness, uint64_t edge_thickness)
-{
-    if (part == PART_END)
-        return paper_endplate_exact(numbers, thickness);
-    return paper_blind_flange_exact(numbers, thickness, edge_thickness);
-}
-
-uint64_t archive_figure(const struct question *question, const uint8_t *plates, size_t plates_length, uint32_t place)
-{
-    const uint32_t *n = question->numbers;
-    if (question->part == PART_END)
-        return scantling_endplate(
-            n[END_FORM], n[END_MATERIAL], n[END_SHELL], n[END_TEMPERATURE], n[END_PRESSURE], n[END_DIAMETER],
-            n[END_ALLOWANCE], plates, plates_length, place);
-    return scantling_blind_flange(
-        n[BLIND_MATERIAL], n[BLIND_TEMPERATURE], n[BLIND_PRESSURE], n[BLIND_ALLOWANCE], n[BLIND_OD], n[BLIND_WIDTH],
-        n[BLIND_M], n[BLIND_Y], n[BLIND_CIRCLE], n[BLIND_BOLT], n[BLIND_ROOT], n[BLIND_COUNT], n[BLIND_SA],
-        n[BLIND_SB], plates, plates_length, place);
-}
-
 static void print_question(const struct asking *asking)
 {
     const struct question *question = asking->question;
-    const char *const *keys = question->part == PART_END ? paper_end_keys : paper_blind_keys;
-    printf("%s:", question->part == PART_END ? "scantling_endplate" : "scantling_blind_flange");
-    for (size_t i = 0; i < number_count(question->part); i++)
-        printf(" %s=%" PRIu32, keys[i + 1], question->numbers[i]);
+    const struct paper_part *part = &paper_parts[question->part];
+    printf("%s:", archive_calls[question->part].name);
+    for (size_t i = 0; i < part->numbers; i++)
+        printf(" %s=%" PRIu32, part->keys[i + 1], question->numbers[i]);
     printf(" plates=");
     for (size_t i = 0; i < question->plate_count; i++)
         printf(i == 0 ? "%" PRIu32 : ",%" PRIu32, question->plates[i]);
@@ -51,7 +31,9 @@ static void print_question(const struct asking *asking)
 
 static void compare_place(struct compare *compare, const struct asking *asking, uint32_t place)
 {
-    uint64_t archive = archive_figure(asking->question, asking->plates, asking->plates_length, place);
+    const struct question *question = asking->question;
+    uint64_t archive =
+        archive_calls[question->part].figure(question->numbers, asking->plates, asking->plates_length, place);
     uint64_t separate = place < PAPER_PLACES ? asking->figures[place] : 0;
     compare->calls++;
     if (archive == separate)
@@ -65,18 +47,20 @@ static void compare_place(struct compare *compare, const struct asking *asking, 
 /* The figures judged are the archive's: their places were compared. */
 static void judge_question(struct compare *compare, const struct asking *asking)
 {
-    const int end = asking->question->part == PART_END;
-    uint64_t thickness = asking->figures[end ? END_THICKNESS_PLACE : BLIND_THICKNESS_PLACE];
-    uint64_t edge_thickness = asking->figures[BLIND_EDGE_THICKNESS_PLACE];
-    if (asking->figures[PLACE_CAUSE] != 0)
+    const struct question *question = asking->question;
+    const struct paper_part *part = &paper_parts[question->part];
+    if (asking->figures[PLACE_CAUSE] != CAUSE_NONE)
         return;
     compare->accuracy++;
-    compare->question_flanges += !end;
-    if (is_exact(asking->question->part, asking->question->numbers, thickness, edge_thickness))
+    compare->question_accepted[question->part]++;
+    if (part->exact(question->numbers, asking->figures))
         return;
     printf("not exact: ");
     print_question(asking);
-    printf(": need %" PRIu64 " edge %" PRIu64 "\n", thickness, edge_thickness);
+    printf(":");
+    for (size_t i = 0; i < part->figures; i++)
+        printf(" %s=%" PRIu64, part->report_keys[i], asking->figures[PLACE_REPORT + i]);
+    printf("\n");
     exit(1);
 }
 
@@ -93,8 +77,7 @@ static void write_plates(struct compare *compare, struct asking *asking)
     if (asking->plates == NULL)
         exit(2);
     rng_fill(&compare->rng, asking->plates, asking->plates_length);
-    for (size_t i = 0; i < 4 * question->plate_count; i++)
-        asking->plates[i] = (uint8_t)(question->plates[i / 4] >> 8 * (i % 4));
+    pack_plates(question->plates, question->plate_count, asking->plates);
 }
 
 static void compare_all_places(struct compare *compare, const struct asking *asking)
@@ -109,8 +92,8 @@ static void compare_some_places(struct compare *compare, const struct asking *as
 {
     compare_place(compare, asking, PLACE_CAUSE);
     compare_place(compare, asking, PLACE_FIGURE);
-    compare_place(compare, asking, asking->question->part == PART_END ? END_THICKNESS_PLACE : BLIND_THICKNESS_PLACE);
-    compare_place(compare, asking, BLIND_EDGE_THICKNESS_PLACE);
+    compare_place(compare, asking, paper_parts[asking->question->part].thickness_place);
+    compare_place(compare, asking, paper_parts[asking->question->part].edge_thickness_place);
     compare_place(compare, asking, rng_below(&compare->rng, PAPER_PLACES));
 }
 
@@ -122,10 +105,7 @@ void compare_question(struct compare *compare, const struct question *question)
     asking.question = question;
     write_plates(compare, &asking);
     size_t count = paper_plates(asking.plates, asking.plates_length, plates, PLATES_ROOM);
-    if (question->part == PART_END)
-        paper_endplate(question->numbers, plates, count, asking.figures);
-    else
-        paper_blind_flange(question->numbers, plates, count, asking.figures);
+    paper_parts[question->part].work(question->numbers, plates, count, asking.figures);
     compare->question_causes[asking.figures[PLACE_CAUSE]]++;
     if (rng_one_in(&compare->rng, 4))
         compare_all_places(compare, &asking);

@@ -58,7 +58,7 @@ static void print_difference(
     print_bytes("separate program", expected, GUARD + lent + GUARD);
 }
 
-int report_figure(const uint8_t *report, size_t length, const char *key, uint64_t *figure)
+uint64_t report_figure(const uint8_t *report, size_t length, const char *key)
 {
     const size_t key_length = strlen(key);
     const uint8_t *line = report, *end = report + length;
@@ -66,10 +66,8 @@ int report_figure(const uint8_t *report, size_t length, const char *key, uint64_
         const uint8_t *stop = memchr(line, '\n', (size_t)(end - line));
         if (stop == NULL)
             return 0;
-        if ((size_t)(stop - line) > key_length && memcmp(line, key, key_length) == 0 && line[key_length] == '=') {
-            *figure = strtoull((const char *)line + key_length + 1, NULL, 10);
-            return 1;
-        }
+        if ((size_t)(stop - line) > key_length && memcmp(line, key, key_length) == 0 && line[key_length] == '=')
+            return strtoull((const char *)line + key_length + 1, NULL, 10);
         line = stop + 1;
     }
     return 0;
@@ -78,14 +76,14 @@ int report_figure(const uint8_t *report, size_t length, const char *key, uint64_
 /* The accuracy demand on the numbers in the bytes of the archive's report. */
 static void judge_report(struct compare *compare, const struct sheet *sheet, const uint8_t *report)
 {
-    uint64_t thickness = 0, edge_thickness = 0;
-    if (sheet->answer.figures[PLACE_CAUSE] != 0)
+    uint64_t figures[PAPER_PLACES] = {0};
+    const struct paper_part *part = &paper_parts[sheet->answer.part];
+    if (sheet->answer.figures[PLACE_CAUSE] != CAUSE_NONE)
         return;
     compare->accuracy++;
-    int found = report_figure(report, sheet->report_length, "need", &thickness);
-    if (sheet->answer.part == PART_BLIND)
-        found = found && report_figure(report, sheet->report_length, "edge", &edge_thickness);
-    if (found && is_exact(sheet->answer.part, sheet->answer.numbers, thickness, edge_thickness))
+    for (size_t i = 0; i < part->figures; i++)
+        figures[PLACE_REPORT + i] = report_figure(report, sheet->report_length, part->report_keys[i]);
+    if (part->exact(sheet->answer.numbers, figures))
         return;
     printf("not exact:\n");
     print_bytes("text", sheet->text, sheet->length);
@@ -104,7 +102,7 @@ static void compare_space(struct compare *compare, const struct sheet *sheet, si
     if (sheet->report_length <= lent)
         memcpy(expected + GUARD, sheet->report, sheet->report_length);
     else
-        compare->sheet_causes[SCANTLING_SHORT_SPACE]++;
+        compare->sheet_causes[CAUSE_SPACE]++;
     size_t returned = scantling_sheet(sheet->text, sheet->length, null ? NULL : area + GUARD, lent);
     if (returned != sheet->report_length || memcmp(area, expected, used) != 0) {
         print_difference(sheet, lent, returned, area, expected);
@@ -120,7 +118,7 @@ void compare_sheet(struct compare *compare, const struct text *text)
     open_sheet(text, &sheet);
     compare->sheets++;
     compare->sheet_causes[sheet.answer.figures[PLACE_CAUSE]]++;
-    compare->sheet_flanges += sheet.answer.figures[PLACE_CAUSE] == 0 && sheet.answer.part == PART_BLIND;
+    compare->sheet_accepted[sheet.answer.part] += sheet.answer.figures[PLACE_CAUSE] == CAUSE_NONE;
     compare_space(compare, &sheet, SCANTLING_LONGEST_REPORT);
     if (rng_one_in(&compare->rng, 4)) {
         compare->spaces++;

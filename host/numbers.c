@@ -13,17 +13,9 @@ struct wish wish_nothing(void)
     return wish;
 }
 
-size_t number_count(enum part part)
-{
-    return part == PART_END ? END_NUMBERS : BLIND_NUMBERS;
-}
-
 void question_figures(const struct question *question, uint64_t figures[PAPER_PLACES])
 {
-    if (question->part == PART_END)
-        paper_endplate(question->numbers, question->plates, question->plate_count, figures);
-    else
-        paper_blind_flange(question->numbers, question->plates, question->plate_count, figures);
+    paper_parts[question->part].work(question->numbers, question->plates, question->plate_count, figures);
 }
 
 enum part draw_part(struct rng *rng)
@@ -137,13 +129,15 @@ static void draw_blind_flange(struct rng *rng, const int64_t *wish, uint32_t *n)
     draw_bolts(rng, wish, n);
 }
 
+static void (*const draws[PARTS])(struct rng *rng, const int64_t *wish, uint32_t *n) = {
+    [PART_END] = draw_endplate,
+    [PART_BLIND] = draw_blind_flange,
+};
+
 void draw_numbers(struct rng *rng, enum part part, const struct wish *wish, struct question *question)
 {
     question->part = part;
-    if (part == PART_END)
-        draw_endplate(rng, wish->numbers, question->numbers);
-    else
-        draw_blind_flange(rng, wish->numbers, question->numbers);
+    draws[part](rng, wish->numbers, question->numbers);
 }
 
 static uint32_t draw_plate(struct rng *rng, uint32_t total, const struct question *question)
@@ -188,7 +182,7 @@ static uint32_t draw_wild(struct rng *rng, uint32_t largest)
 
 void draw_wild_numbers(struct rng *rng, uint32_t largest, struct question *question)
 {
-    const size_t count = number_count(question->part);
+    const size_t count = paper_parts[question->part].numbers;
     const uint32_t changes = 1 + rng_below(rng, 1 + rng_below(rng, (uint32_t)count));
     for (uint32_t i = 0; i < changes; i++) {
         uint32_t number = rng_below(rng, (uint32_t)count);

@@ -9,7 +9,7 @@
 
 struct question {
     enum part part;
-    uint32_t numbers[BLIND_NUMBERS]; /* END_NUMBERS of them for an endplate */
+    uint32_t numbers[BLIND_NUMBERS]; /* by name; an endplate has fewer */
     uint32_t plates[PLATES_ROOM];
     size_t plate_count;
 };
@@ -21,7 +21,6 @@ struct wish {
 };
 struct wish wish_nothing(void);
 
-size_t number_count(enum part part);
 void question_figures(const struct question *question, uint64_t figures[PAPER_PLACES]);
 
 /* Numbers that meet no cause before 13, wherever the wish leaves room for it. The plates stay as they were. */

@@ -10,7 +10,7 @@
 
 __extension__ typedef unsigned __int128 u128;
 
-enum part { PART_NONE, PART_END, PART_BLIND };
+enum part { PART_NONE, PART_END, PART_BLIND, PARTS };
 
 /* The numbers of an endplate and of a blind flange, in the order of the sheet's lines. */
 enum { END_FORM, END_MATERIAL, END_SHELL, END_TEMPERATURE, END_PRESSURE, END_DIAMETER, END_ALLOWANCE, END_NUMBERS };
@@ -22,6 +22,14 @@ enum {
 /* Forms a, c, d of 8.3.4 as the numeric call names them. */
 enum { FORM_A = 1, FORM_C = 2, FORM_D = 3 };
 
+/* Causes of refusal. Counts by cause have CAUSES places, one more than the greatest. */
+enum {
+    CAUSE_NONE = 0, CAUSE_LINE = 1, CAUSE_MATERIAL = 2, CAUSE_PRESSURE = 3, CAUSE_TEMPERATURE = 4,
+    CAUSE_DESIGN_STRESS = 5, CAUSE_DIAMETER = 6, CAUSE_ALLOWANCE = 7, CAUSE_WIDTH = 8, CAUSE_GASKET = 9,
+    CAUSE_BOLTS = 10, CAUSE_BOLT_STRESS = 11, CAUSE_CIRCLE = 12, CAUSE_OVERLOAD = 13, CAUSE_PLATE = 14,
+    CAUSE_SPACE = 15, CAUSES
+};
+
 /* Places of the figures. Those from 2 on stand in report order; a place without a figure holds 0. */
 enum { PLACE_CAUSE, PLACE_FIGURE, PLACE_REPORT };
 enum { END_DESIGN_STRESS_PLACE = PLACE_REPORT, END_THICKNESS_PLACE, END_TOTAL_PLACE, END_PLATE_PLACE };
@@ -30,9 +38,9 @@ enum {
     BLIND_EFFECTIVE_WIDTH_PLACE, BLIND_OPERATING_LOAD_PLACE, BLIND_SEATING_LOAD_PLACE, BLIND_FLANGE_LOAD_PLACE,
     BLIND_THICKNESS_PLACE, BLIND_EDGE_THICKNESS_PLACE, BLIND_TOTAL_PLACE, BLIND_PLATE_PLACE
 };
-#define PAPER_PLACES 21
+enum { PAPER_PLACES = BLIND_PLATE_PLACE + 9 }; /* of the longer report, and some past it */
 
-enum { END_FIGURES = 4, BLIND_FIGURES = 11 }; /* of an accepted report */
+enum { END_FIGURES = END_PLATE_PLACE + 1 - PLACE_REPORT, BLIND_FIGURES = BLIND_PLATE_PLACE + 1 - PLACE_REPORT };
 enum { END_LINES = END_NUMBERS + 2, BLIND_LINES = BLIND_NUMBERS + 2 }; /* of a sheet: part, the numbers, plates */
 
 #define PAPER_SHEET_PLATES 32
@@ -44,18 +52,18 @@ uint32_t paper_design_stress(uint32_t material, uint32_t temperature);
 /* F: the plate's stress, for forms c and d the lower of plate's and shell's; 0 if a material in use has none. */
 uint32_t paper_endplate_design_stress(const uint32_t n[END_NUMBERS]);
 
-/* The least x with a * x >= b. a is 1 or more and a * b below 2^128. */
+/* The least x with a * x >= b, for a of 1 or more and a * b below 2^128; other numbers end the program. */
 uint64_t paper_least_quotient(u128 a, u128 b);
 
-/* The least x with a * x * x >= b. a is 1 or more and both are below 2^64. */
+/* The least x with a * x * x >= b, for a of 1 or more, both below 2^64; other numbers end the program. */
 uint64_t paper_least_root(u128 a, u128 b);
 
-/* Gasket and loads of a blind flange that meets none of the causes 2 to 11. */
+/* Gasket and loads of a blind flange that meets none of the causes 2 to 9. */
 struct paper_gasket {
-    u128 effective_width;   /* b, at most 1260 */
-    u128 reaction_diameter; /* G, 375 to 19,900 */
-    u128 operating_load;    /* Wm1, below 8.4 * 10^6 */
-    u128 seating_load;      /* Wm2, below 1.5 * 10^7 */
+    u128 effective_width;   /* b */
+    u128 reaction_diameter; /* G */
+    u128 operating_load;    /* Wm1 */
+    u128 seating_load;      /* Wm2 */
 };
 struct paper_gasket paper_gasket(const uint32_t n[BLIND_NUMBERS]);
 
@@ -66,9 +74,20 @@ void paper_blind_flange(const uint32_t n[], const uint32_t *plates, size_t count
 /* The plates in bytes as the C interface takes them; at most room are written. Returns how many. */
 size_t paper_plates(const uint8_t *bytes, size_t length, uint32_t *plates, size_t room);
 
-/* The accuracy demand on the printed numbers of an accepted sheet: 1 if the exact inequalities judge them right. */
-int paper_endplate_exact(const uint32_t n[END_NUMBERS], uint64_t thickness);
-int paper_blind_flange_exact(const uint32_t n[BLIND_NUMBERS], uint64_t thickness, uint64_t edge_thickness);
+/* The accuracy demand on the figures printed for accepted numbers: 1 if the exact inequalities judge them right. */
+int paper_endplate_exact(const uint32_t n[], const uint64_t figures[PAPER_PLACES]);
+int paper_blind_flange_exact(const uint32_t n[], const uint64_t figures[PAPER_PLACES]);
+
+/* What the parts differ in. Keys stand in line order: of a sheet from line 1 on, of an accepted report from place 2 on. */
+struct paper_part {
+    const char *word;        /* on the line `part` */
+    size_t numbers, figures; /* of a sheet, of an accepted report */
+    const char *const *keys, *const *report_keys;
+    uint32_t thickness_place, edge_thickness_place; /* of what is judged by exact; the latter 0 if there is none */
+    void (*work)(const uint32_t n[], const uint32_t *plates, size_t count, uint64_t figures[PAPER_PLACES]);
+    int (*exact)(const uint32_t n[], const uint64_t figures[PAPER_PLACES]);
+};
+extern const struct paper_part paper_parts[PARTS]; /* nothing for PART_NONE */
 
 /* What a sheet holds, and its figures by place. Under cause 1 only the figures are to be read. */
 struct paper_answer {
@@ -78,12 +97,6 @@ struct paper_answer {
     size_t plate_count;
     uint64_t figures[PAPER_PLACES];
 };
-
-/* Keys in line order: of a sheet from line 1 on, of an accepted report from place 2 on. */
-extern const char *const paper_end_keys[END_LINES];
-extern const char *const paper_blind_keys[BLIND_LINES];
-extern const char *const paper_end_report_keys[END_FIGURES];
-extern const char *const paper_blind_report_keys[BLIND_FIGURES];
 
 /* The report or the refusal (causes 1 to 14) of a sheet, in PAPER_REPORT_ROOM bytes. Returns its length. */
 size_t paper_report(const uint8_t *text, size_t length, uint8_t *report, struct paper_answer *answer);

@@ -1,13 +1,12 @@
 /*
  * Document 01, the accuracy demand: the exact inequalities, multiplied out until no fraction is left.
  *
- * 128 bits suffice. For an accepted sheet S and S0 are at most 128, G is below 20,000 and sb at most 400; a thickness
- * above LARGEST is refused first. So 2 * 10^13 * sb * S0 * G * edge^2 is below 2.1 * 10^34. V is below 10^22 and C - G
- * at most 10,000, so every right side is below 10^32. 2^128 is above 3.4 * 10^38.
+ * The numbers were accepted, so each side fits 128 bits for a thickness up to LARGEST; a greater one is judged wrong
+ * unseen.
  */
 #include "paper.h"
 
-#define LARGEST 1000000 /* hundredths of a mm; no accepted sheet needs so much */
+#define LARGEST 1000000 /* hundredths of a mm */
 
 #define TEN_5 UINT64_C(100000)
 #define TEN_10 UINT64_C(10000000000)
@@ -24,8 +23,9 @@ static int endplate_holds(const uint32_t n[], u128 thickness)
     return 40 * design_stress * thickness * thickness >= pressure * diameter * diameter;
 }
 
-int paper_endplate_exact(const uint32_t n[END_NUMBERS], uint64_t thickness)
+int paper_endplate_exact(const uint32_t n[], const uint64_t figures[PAPER_PLACES])
 {
+    const uint64_t thickness = figures[END_THICKNESS_PLACE];
     if (thickness == 0 || thickness > LARGEST)
         return 0;
     return endplate_holds(n, thickness) && !endplate_holds(n, thickness - 1);
@@ -85,9 +85,10 @@ static int edge_holds(const struct exact_flange *flange, u128 edge)
 }
 
 /* Where 4.00 mm or more is printed, no whole number smaller by 2 or more holds. */
-int paper_blind_flange_exact(const uint32_t n[BLIND_NUMBERS], uint64_t thickness, uint64_t edge_thickness)
+int paper_blind_flange_exact(const uint32_t n[], const uint64_t figures[PAPER_PLACES])
 {
     const struct exact_flange flange = exact_flange(n);
+    const uint64_t thickness = figures[BLIND_THICKNESS_PLACE], edge_thickness = figures[BLIND_EDGE_THICKNESS_PLACE];
     if (thickness > LARGEST || edge_thickness > LARGEST)
         return 0;
     if (!thickness_holds(&flange, thickness) || !edge_holds(&flange, edge_thickness))

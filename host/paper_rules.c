@@ -1,6 +1,7 @@
 /* Document 01: design stress, endplates, blind flanges, plates, and the causes 2 to 14. */
 #include "paper.h"
 
+#include <stdlib.h>
 #include <string.h>
 
 /* ---- Design stress (Table 1) ---- */
@@ -36,6 +37,8 @@ uint32_t paper_design_stress(uint32_t material, uint32_t temperature)
 uint64_t paper_least_quotient(u128 a, u128 b)
 {
     u128 low = 0, high = b; /* x = b satisfies it */
+    if (a == 0 || (b > 0 && a > ~(u128)0 / b))
+        abort();
     while (low < high) {
         u128 x = (low + high) / 2;
         if (a * x >= b)
@@ -49,6 +52,8 @@ uint64_t paper_least_quotient(u128 a, u128 b)
 uint64_t paper_least_root(u128 a, u128 b)
 {
     u128 low = 0, high = (u128)1 << 32; /* its square is 2^64; an x that is tried is below it */
+    if (a == 0 || a > UINT64_MAX || b > UINT64_MAX)
+        abort();
     while (low < high) {
         u128 x = (low + high) / 2;
         if (a * x * x >= b)
@@ -70,7 +75,7 @@ uint32_t paper_endplate_design_stress(const uint32_t n[END_NUMBERS])
     return plate < shell ? plate : shell;
 }
 
-/* T, the need, from F, P and d. At most 38,491, F being 18 or more and P * d^2 at most 8 * 10^11. */
+/* T, the need, from F, P and d, of an endplate that meets none of the causes 2 to 7. */
 static uint64_t endplate_thickness(const uint32_t n[])
 {
     const u128 design_stress = paper_endplate_design_stress(n);
@@ -82,7 +87,7 @@ static uint64_t endplate_thickness(const uint32_t n[])
 
 /* ---- Blind flanges ---- */
 
-/* From od, n (width), m, y and P. root_width is k, tenths of a mm, 126 at most. */
+/* From od, n (width), m, y and P. root_width is k, tenths of a mm. */
 struct paper_gasket paper_gasket(const uint32_t n[BLIND_NUMBERS])
 {
     const u128 od = n[BLIND_OD], width = n[BLIND_WIDTH], m = n[BLIND_M], y = n[BLIND_Y], pressure = n[BLIND_PRESSURE];
@@ -113,7 +118,7 @@ static int bolts_sufficient(const uint32_t n[], const struct paper_gasket *gaske
     return bolt_area(n) * sb >= 10 * gasket->operating_load && bolt_area(n) * sa >= 10 * gasket->seating_load;
 }
 
-/* W. Below 1.1 * 10^8: A is at most 4,534,100, sa 400 and sa / sb 4. */
+/* W, for bolts that meet neither 10 nor 11. */
 static uint64_t flange_load(const uint32_t n[], const struct paper_gasket *gasket)
 {
     const u128 sa = n[BLIND_SA], sb = n[BLIND_SB];
@@ -121,7 +126,7 @@ static uint64_t flange_load(const uint32_t n[], const struct paper_gasket *gaske
     return paper_least_quotient(20 * sb, (operating > seating ? operating : seating) + bolt_area(n) * sa * sb);
 }
 
-/* The need e, from S, G, P, Wm1 and C. The right side is below 2 * 10^17. */
+/* The need e, from S, G, P, Wm1 and C, of a blind flange that meets none of the causes 2 to 12. */
 static uint64_t blind_flange_thickness(const uint32_t n[], const struct paper_gasket *gasket)
 {
     const u128 design_stress = paper_design_stress(n[BLIND_MATERIAL], n[BLIND_TEMPERATURE]);
@@ -132,7 +137,7 @@ static uint64_t blind_flange_thickness(const uint32_t n[], const struct paper_ga
             954500 * gasket->operating_load * (circle - reaction_diameter));
 }
 
-/* The edge, from S0, S, G, W, Wm1 and C. C - G is below 10,000, so a right side is below 2 * 10^18. */
+/* The edge, from S0, S, G, W, Wm1 and C, of a blind flange that meets none of the causes 2 to 12. */
 static uint64_t blind_flange_edge_thickness(const uint32_t n[], const struct paper_gasket *gasket, u128 load)
 {
     const u128 design_stress = paper_design_stress(n[BLIND_MATERIAL], n[BLIND_TEMPERATURE]);
@@ -178,24 +183,24 @@ static int shared_cause(
     uint32_t pressure, uint32_t temperature, uint32_t design_stress, uint32_t diameter, uint32_t allowance)
 {
     if (pressure == 0 || pressure > 2000)
-        return 3;
+        return CAUSE_PRESSURE;
     if (temperature > 300)
-        return 4;
+        return CAUSE_TEMPERATURE;
     if (design_stress == 0)
-        return 5;
+        return CAUSE_DESIGN_STRESS;
     if (diameter < 500 || diameter > 20000)
-        return 6;
+        return CAUSE_DIAMETER;
     if (allowance > 1000)
-        return 7;
-    return 0;
+        return CAUSE_ALLOWANCE;
+    return CAUSE_NONE;
 }
 
 static int endplate_cause(const uint32_t n[])
 {
     if (n[END_FORM] != FORM_A && n[END_FORM] != FORM_C && n[END_FORM] != FORM_D)
-        return 2;
+        return CAUSE_MATERIAL;
     if (!is_plate_material(n[END_MATERIAL]) || n[END_SHELL] > 11 || (n[END_SHELL] == 0) != (n[END_FORM] == FORM_A))
-        return 2;
+        return CAUSE_MATERIAL;
     return shared_cause(
         n[END_PRESSURE], n[END_TEMPERATURE], paper_endplate_design_stress(n), n[END_DIAMETER], n[END_ALLOWANCE]);
 }
@@ -205,10 +210,10 @@ static int gasket_cause(const uint32_t n[])
 {
     const u128 od = n[BLIND_OD], width = n[BLIND_WIDTH], m = n[BLIND_M], y = n[BLIND_Y];
     if (width < 100 || width > 500 || 4 * width > od)
-        return 8;
+        return CAUSE_WIDTH;
     if (m > 650 || y > 1800)
-        return 9;
-    return 0;
+        return CAUSE_GASKET;
+    return CAUSE_NONE;
 }
 
 /* Causes 10 and 11. */
@@ -216,10 +221,10 @@ static int bolt_cause(const uint32_t n[])
 {
     const u128 bolt = n[BLIND_BOLT], root = n[BLIND_ROOT], count = n[BLIND_COUNT], sa = n[BLIND_SA], sb = n[BLIND_SB];
     if (bolt < 12 || bolt > 76 || root == 0 || 100 * root > 785 * bolt * bolt || count < 4 || count > 100)
-        return 10;
+        return CAUSE_BOLTS;
     if (sa == 0 || sa > 400 || sb == 0 || sb > 400 || sa > 4 * sb)
-        return 11;
-    return 0;
+        return CAUSE_BOLT_STRESS;
+    return CAUSE_NONE;
 }
 
 /* Causes 12 and 13. */
@@ -227,23 +232,23 @@ static int load_cause(const uint32_t n[], const struct paper_gasket *gasket)
 {
     const u128 od = n[BLIND_OD], bolt = n[BLIND_BOLT], circle = n[BLIND_CIRCLE];
     if (circle < od + 10 * bolt || 2 * circle > 3 * gasket->reaction_diameter)
-        return 12;
-    return bolts_sufficient(n, gasket) ? 0 : 13;
+        return CAUSE_CIRCLE;
+    return bolts_sufficient(n, gasket) ? CAUSE_NONE : CAUSE_OVERLOAD;
 }
 
 /* Causes 2 to 13. gasket is set where they reach 12. */
 static int blind_flange_cause(const uint32_t n[], struct paper_gasket *gasket)
 {
-    int cause = is_plate_material(n[BLIND_MATERIAL]) ? 0 : 2;
-    if (cause == 0)
+    int cause = is_plate_material(n[BLIND_MATERIAL]) ? CAUSE_NONE : CAUSE_MATERIAL;
+    if (cause == CAUSE_NONE)
         cause = shared_cause(
             n[BLIND_PRESSURE], n[BLIND_TEMPERATURE],
             paper_design_stress(n[BLIND_MATERIAL], n[BLIND_TEMPERATURE]), n[BLIND_OD], n[BLIND_ALLOWANCE]);
-    if (cause == 0)
+    if (cause == CAUSE_NONE)
         cause = gasket_cause(n);
-    if (cause == 0)
+    if (cause == CAUSE_NONE)
         cause = bolt_cause(n);
-    if (cause != 0)
+    if (cause != CAUSE_NONE)
         return cause;
     *gasket = paper_gasket(n);
     return load_cause(n, gasket);
@@ -262,14 +267,14 @@ void paper_endplate(const uint32_t n[], const uint32_t *plates, size_t count, ui
 {
     int cause = endplate_cause(n);
     refuse(figures, cause, 0);
-    if (cause != 0)
+    if (cause != CAUSE_NONE)
         return;
     figures[END_DESIGN_STRESS_PLACE] = paper_endplate_design_stress(n);
     figures[END_THICKNESS_PLACE] = endplate_thickness(n);
     figures[END_TOTAL_PLACE] = figures[END_THICKNESS_PLACE] + n[END_ALLOWANCE];
     figures[END_PLATE_PLACE] = serving_plate(plates, count, figures[END_TOTAL_PLACE]);
     if (figures[END_PLATE_PLACE] == 0)
-        refuse(figures, 14, figures[END_TOTAL_PLACE]);
+        refuse(figures, CAUSE_PLATE, figures[END_TOTAL_PLACE]);
 }
 
 void paper_blind_flange(const uint32_t n[], const uint32_t *plates, size_t count, uint64_t figures[PAPER_PLACES])
@@ -277,7 +282,7 @@ void paper_blind_flange(const uint32_t n[], const uint32_t *plates, size_t count
     struct paper_gasket gasket;
     int cause = blind_flange_cause(n, &gasket);
     refuse(figures, cause, 0);
-    if (cause != 0)
+    if (cause != CAUSE_NONE)
         return;
     uint64_t load = flange_load(n, &gasket);
     uint64_t thickness = blind_flange_thickness(n, &gasket);
@@ -285,7 +290,7 @@ void paper_blind_flange(const uint32_t n[], const uint32_t *plates, size_t count
     uint64_t total = (thickness > edge_thickness ? thickness : edge_thickness) + n[BLIND_ALLOWANCE];
     uint64_t plate = serving_plate(plates, count, total);
     if (plate == 0) {
-        refuse(figures, 14, total);
+        refuse(figures, CAUSE_PLATE, total);
         return;
     }
     figures[BLIND_DESIGN_STRESS_PLACE] = paper_design_stress(n[BLIND_MATERIAL], n[BLIND_TEMPERATURE]);

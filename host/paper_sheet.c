@@ -3,14 +3,21 @@
 
 #include <string.h>
 
-const char *const paper_end_keys[END_LINES] = {
+static const char *const end_keys[END_LINES] = {
     "part", "form", "material", "shell", "temp", "pressure", "dia", "allow", "plates"};
-const char *const paper_blind_keys[BLIND_LINES] = {
+static const char *const blind_keys[BLIND_LINES] = {
     "part", "material", "temp", "pressure", "allow", "od", "width", "m", "y", "circle", "bolt", "root", "count", "sa",
     "sb", "plates"};
-const char *const paper_end_report_keys[END_FIGURES] = {"stress", "need", "total", "plate"};
-const char *const paper_blind_report_keys[BLIND_FIGURES] = {
+static const char *const end_report_keys[END_FIGURES] = {"stress", "need", "total", "plate"};
+static const char *const blind_report_keys[BLIND_FIGURES] = {
     "stress", "cold", "g", "b", "wm1", "wm2", "w", "need", "edge", "total", "plate"};
+
+const struct paper_part paper_parts[PARTS] = {
+    [PART_END] = {"end", END_NUMBERS, END_FIGURES, end_keys, end_report_keys, END_THICKNESS_PLACE, 0, paper_endplate,
+                  paper_endplate_exact},
+    [PART_BLIND] = {"blind", BLIND_NUMBERS, BLIND_FIGURES, blind_keys, blind_report_keys, BLIND_THICKNESS_PLACE,
+                    BLIND_EDGE_THICKNESS_PLACE, paper_blind_flange, paper_blind_flange_exact},
+};
 
 struct span {
     const uint8_t *at;
@@ -90,37 +97,40 @@ static int read_form(struct span text, uint32_t *form)
     return *form != 0;
 }
 
+/* The value of a line between the part and the plates. */
+static int read_value(const char *key, struct span value, uint32_t *number)
+{
+    return strcmp(key, "form") == 0 ? read_form(value, number) : read_number(value, number);
+}
+
 static enum part read_part(struct span *text)
 {
     struct span value;
     if (!take_line(text, "part", &value))
         return PART_NONE;
-    return span_is(value, "end") ? PART_END : span_is(value, "blind") ? PART_BLIND : PART_NONE;
-}
-
-/* The value of a line from 2 on: a form, a number or the plates. */
-static int read_value(uint32_t line, uint32_t lines, struct span value, struct paper_answer *answer)
-{
-    if (line == lines)
-        return read_plates(value, answer);
-    if (answer->part == PART_END && line == 2)
-        return read_form(value, &answer->numbers[END_FORM]);
-    return read_number(value, &answer->numbers[line - 2]);
+    for (enum part part = PART_NONE + 1; part < PARTS; part++)
+        if (span_is(value, paper_parts[part].word))
+            return part;
+    return PART_NONE;
 }
 
 /* The number of the first line that is not what must stand there, 0 if none. */
 static uint32_t read_sheet(struct span text, struct paper_answer *answer)
 {
     struct span value;
+    uint32_t line = 1;
     answer->part = read_part(&text);
     if (answer->part == PART_NONE)
-        return 1;
-    const char *const *keys = answer->part == PART_END ? paper_end_keys : paper_blind_keys;
-    const uint32_t lines = answer->part == PART_END ? END_LINES : BLIND_LINES;
-    for (uint32_t line = 2; line <= lines; line++)
-        if (!take_line(&text, keys[line - 1], &value) || !read_value(line, lines, value, answer))
+        return line;
+    const struct paper_part *part = &paper_parts[answer->part];
+    for (size_t i = 0; i < part->numbers; i++) {
+        const char *key = part->keys[line++];
+        if (!take_line(&text, key, &value) || !read_value(key, value, &answer->numbers[i]))
             return line;
-    return text.length == 0 ? 0 : lines + 1;
+    }
+    if (!take_line(&text, part->keys[line++], &value) || !read_plates(value, answer))
+        return line;
+    return text.length == 0 ? 0 : line + 1;
 }
 
 /* ---- The report ---- */
@@ -145,11 +155,10 @@ static size_t put_line(uint8_t *report, size_t length, const char *key, uint64_t
 
 static size_t put_report(const struct paper_answer *answer, uint8_t *report)
 {
-    const char *const *keys = answer->part == PART_END ? paper_end_report_keys : paper_blind_report_keys;
-    const int count = answer->part == PART_END ? END_FIGURES : BLIND_FIGURES;
+    const struct paper_part *part = &paper_parts[answer->part];
     size_t length = 0;
-    for (int i = 0; i < count; i++)
-        length = put_line(report, length, keys[i], answer->figures[PLACE_REPORT + i]);
+    for (size_t i = 0; i < part->figures; i++)
+        length = put_line(report, length, part->report_keys[i], answer->figures[PLACE_REPORT + i]);
     return length;
 }
 
@@ -160,14 +169,12 @@ size_t paper_report(const uint8_t *text, size_t length, uint8_t *report, struct 
     memset(answer, 0, sizeof *answer);
     line = read_sheet(sheet, answer);
     if (line != 0) {
-        answer->figures[PLACE_CAUSE] = 1;
+        answer->figures[PLACE_CAUSE] = CAUSE_LINE;
         answer->figures[PLACE_FIGURE] = line;
-    } else if (answer->part == PART_END) {
-        paper_endplate(answer->numbers, answer->plates, answer->plate_count, answer->figures);
     } else {
-        paper_blind_flange(answer->numbers, answer->plates, answer->plate_count, answer->figures);
+        paper_parts[answer->part].work(answer->numbers, answer->plates, answer->plate_count, answer->figures);
     }
-    if (answer->figures[PLACE_CAUSE] == 0)
+    if (answer->figures[PLACE_CAUSE] == CAUSE_NONE)
         return put_report(answer, report);
     size_t refused = put_line(report, 0, "refused", answer->figures[PLACE_CAUSE]);
     return put_line(report, refused, "place", answer->figures[PLACE_FIGURE]);

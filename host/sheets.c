@@ -12,39 +12,47 @@ static void append(struct text *text, const char *word)
     text->length += length;
 }
 
-static void append_number(struct text *text, const char *before, uint32_t number, const char *after)
+static void append_number(struct text *text, uint32_t number)
 {
     char digits[16];
     sprintf(digits, "%lu", (unsigned long)number);
-    append(text, before);
     append(text, digits);
-    append(text, after);
 }
 
-static void append_form(struct text *text, uint32_t form)
+static const char *form_letter(uint32_t form)
 {
-    append(text, form == FORM_A ? "form=a\n" : form == FORM_C ? "form=c\n" : form == FORM_D ? "form=d\n" : "form=b\n");
+    return form == FORM_A ? "a" : form == FORM_C ? "c" : form == FORM_D ? "d" : "b";
+}
+
+static void append_line(struct text *text, const char *key, uint32_t number)
+{
+    append(text, key);
+    append(text, "=");
+    if (strcmp(key, "form") == 0)
+        append(text, form_letter(number));
+    else
+        append_number(text, number);
+    append(text, "\n");
 }
 
 static void append_plates(struct text *text, const struct question *question)
 {
     append(text, "plates=");
-    for (size_t i = 0; i < question->plate_count; i++)
-        append_number(text, i == 0 ? "" : ",", question->plates[i], "");
+    for (size_t i = 0; i < question->plate_count; i++) {
+        append(text, i == 0 ? "" : ",");
+        append_number(text, question->plates[i]);
+    }
     append(text, "\n");
 }
 
 void write_sheet(const struct question *question, struct text *text)
 {
-    const int end = question->part == PART_END;
-    const char *const *keys = end ? paper_end_keys : paper_blind_keys;
+    const struct paper_part *part = &paper_parts[question->part];
     text->length = 0;
-    append(text, end ? "part=end\n" : "part=blind\n");
-    if (end)
-        append_form(text, question->numbers[END_FORM]);
-    for (size_t i = end ? 1 : 0; i < number_count(question->part); i++) {
-        append(text, keys[i + 1]);
-        append_number(text, "=", question->numbers[i], "\n");
-    }
+    append(text, "part=");
+    append(text, part->word);
+    append(text, "\n");
+    for (size_t i = 0; i < part->numbers; i++)
+        append_line(text, part->keys[i + 1], question->numbers[i]);
     append_plates(text, question);
 }

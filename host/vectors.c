@@ -28,51 +28,62 @@ static void give_up(const char *why, const char *line)
     exit(1);
 }
 
-/* Numbers with single spaces between. Returns how many. */
-static size_t read_numbers(const char *line, uint64_t numbers[VECTOR_NUMBERS])
+/* Numbers with single spaces between, the kind first. */
+struct numbers {
+    uint64_t values[VECTOR_LINE / 2];
+    size_t count;
+};
+
+static void read_numbers(const char *line, struct numbers *numbers)
 {
-    size_t count = 0;
     const char *at = line;
+    numbers->count = 0;
     for (;;) {
         char *end;
-        if (count == VECTOR_NUMBERS || *at < '0' || *at > '9')
+        if (*at < '0' || *at > '9')
             give_up("not numbers", line);
-        numbers[count++] = strtoull(at, &end, 10);
+        numbers->values[numbers->count++] = strtoull(at, &end, 10);
         if (*end == '\0')
-            return count;
+            return;
         if (*end != ' ')
             give_up("not numbers", line);
         at = end + 1;
     }
 }
 
-static void print_figures(const uint64_t *figures, size_t first, size_t last)
+static void print_figures(const uint64_t *figures, size_t first, size_t count)
 {
-    for (size_t place = first; place <= last; place++)
+    for (size_t place = first; place < first + count; place++)
         printf(" %" PRIu64, figures[place]);
 }
 
-/* Kinds 1 and 2. */
-static void work_question(const char *line, enum part part)
+/* What a kind's lines ask. */
+struct kind {
+    void (*work)(const char *line, const struct kind *kind);
+    enum part part;                         /* of a calculation */
+    size_t count;                           /* of the numbers after the kind, 1 or 2, and what is worked from them */
+    uint64_t (*answer)(uint64_t, uint64_t);
+};
+
+/* A calculation's call. */
+static void work_question(const char *line, const struct kind *kind)
 {
-    const size_t before = 1 + (part == PART_END ? END_NUMBERS : BLIND_NUMBERS); /* the plates */
-    uint64_t numbers[VECTOR_NUMBERS], figures[PAPER_PLACES];
-    uint32_t values[VECTOR_NUMBERS];
-    const size_t count = read_numbers(line, numbers);
-    if (count < before)
+    const struct paper_part *part = &paper_parts[kind->part];
+    static struct numbers numbers;
+    static uint32_t values[VECTOR_LINE / 2];
+    uint64_t figures[PAPER_PLACES];
+    read_numbers(line, &numbers);
+    const size_t count = numbers.count - 1, report = PLACE_REPORT + part->figures;
+    if (count < part->numbers)
         give_up("too few numbers", line);
     for (size_t i = 0; i < count; i++)
-        values[i] = numbers[i] <= UINT32_MAX ? (uint32_t)numbers[i] : (give_up("too large", line), 0);
-    if (part == PART_END)
-        paper_endplate(values + 1, values + before, count - before, figures);
-    else
-        paper_blind_flange(values + 1, values + before, count - before, figures);
+        values[i] =
+            numbers.values[i + 1] <= UINT32_MAX ? (uint32_t)numbers.values[i + 1] : (give_up("too large", line), 0);
+    part->work(values, values + part->numbers, count - part->numbers, figures);
     printf("%s =", line);
-    print_figures(figures, PLACE_CAUSE, PLACE_FIGURE);
-    if (figures[PLACE_CAUSE] == 0)
-        print_figures(figures, PLACE_REPORT, part == PART_END ? END_PLATE_PLACE : BLIND_PLATE_PLACE);
+    print_figures(figures, 0, figures[PLACE_CAUSE] == CAUSE_NONE ? report : PLACE_REPORT);
     printf(" :");
-    print_figures(figures, 0, part == PART_END ? 7 : 14);
+    print_figures(figures, 0, report + 2);
     printf("\n");
 }
 
@@ -88,9 +99,9 @@ static size_t decode(const char *signs, uint8_t text[VECTOR_TEXT], const char *l
     return length;
 }
 
-/* Kind 3. */
-static void work_sheet(const char *line)
+static void work_sheet(const char *line, const struct kind *kind)
 {
+    (void)kind;
     uint8_t text[VECTOR_TEXT], report[PAPER_REPORT_ROOM], space[VECTOR_ROOM];
     struct paper_answer answer;
     char *end;
@@ -103,7 +114,7 @@ static void work_sheet(const char *line)
     memset(space, '.', sizeof space);
     if (length <= room)
         memcpy(space, report, length);
-    const uint64_t cause = length <= room ? answer.figures[PLACE_CAUSE] : 15;
+    const uint64_t cause = length <= room ? answer.figures[PLACE_CAUSE] : CAUSE_SPACE;
     const uint64_t figure = length <= room ? answer.figures[PLACE_FIGURE] : length;
     printf("%s = %" PRIu64 " %" PRIu64 " %lu : ", line, cause, figure, (unsigned long)length);
     for (size_t i = 0; i < sizeof space; i++)
@@ -111,41 +122,57 @@ static void work_sheet(const char *line)
     printf("\n");
 }
 
-/* Kinds 4 to 7. */
-static void work_numbers(const char *line)
+static void work_numbers(const char *line, const struct kind *kind)
 {
-    uint64_t n[VECTOR_NUMBERS], answer;
-    const size_t count = read_numbers(line, n);
-    if (count != (n[0] == 6 ? 2 : 3) || (n[0] == 4 && (n[1] > UINT32_MAX || n[2] > UINT32_MAX)))
-        give_up("not as many numbers or not so large ones", line);
-    if (n[0] == 4)
-        answer = paper_design_stress((uint32_t)n[1], (uint32_t)n[2]);
-    else if (n[0] == 5)
-        answer = n[2] == 0 ? 0 : paper_least_quotient(n[2], n[1]);
-    else if (n[0] == 6)
-        answer = paper_least_root(1, n[1]);
-    else
-        answer = n[2] == 0 ? 0 : paper_least_root(n[2], n[1]);
-    printf("%s = %" PRIu64 "\n", line, answer);
+    static struct numbers numbers;
+    read_numbers(line, &numbers);
+    if (numbers.count != 1 + kind->count)
+        give_up("not as many numbers", line);
+    printf("%s = %" PRIu64 "\n", line, kind->answer(numbers.values[1], kind->count == 2 ? numbers.values[2] : 0));
 }
+
+static uint64_t design_stress(uint64_t material, uint64_t temperature)
+{
+    return paper_design_stress((uint32_t)material, (uint32_t)temperature);
+}
+
+static uint64_t quotient(uint64_t n, uint64_t d)
+{
+    return d == 0 ? 0 : paper_least_quotient(d, n);
+}
+
+static uint64_t root(uint64_t n, uint64_t unused)
+{
+    (void)unused;
+    return paper_least_root(1, n);
+}
+
+static uint64_t root_over(uint64_t n, uint64_t a)
+{
+    return a == 0 ? 0 : paper_least_root(a, n);
+}
+
+static const struct kind kinds[KINDS] = {
+    [KIND_ENDPLATE] = {.work = work_question, .part = PART_END},
+    [KIND_BLIND_FLANGE] = {.work = work_question, .part = PART_BLIND},
+    [KIND_SHEET] = {.work = work_sheet},
+    [KIND_DESIGN_STRESS] = {.work = work_numbers, .count = 2, .answer = design_stress},
+    [KIND_QUOTIENT] = {.work = work_numbers, .count = 2, .answer = quotient},
+    [KIND_ROOT] = {.work = work_numbers, .count = 1, .answer = root},
+    [KIND_ROOT_OVER] = {.work = work_numbers, .count = 2, .answer = root_over},
+};
 
 static void work_line(const char *line)
 {
-    if (line[0] < '1' || line[0] > '7' || line[1] != ' ')
+    const unsigned long kind = strtoul(line, NULL, 10);
+    if (kind == 0 || kind >= KINDS)
         give_up("no such kind", line);
-    else if (line[0] == '1')
-        work_question(line, PART_END);
-    else if (line[0] == '2')
-        work_question(line, PART_BLIND);
-    else if (line[0] == '3')
-        work_sheet(line);
-    else
-        work_numbers(line);
+    kinds[kind].work(line, &kinds[kind]);
 }
 
 static void work_vectors(void)
 {
-    char line[2048];
+    static char line[VECTOR_LINE + 1];
     while (fgets(line, sizeof line, stdin) != NULL) {
         char *end = strchr(line, '\n');
         if (end == NULL)

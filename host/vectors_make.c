@@ -1,30 +1,27 @@
-/* `vectors make`: the lines, by kind 4 to 7, then 1 and 2, then 3. */
+/* `vectors make`: the tables and roots, then the calculations, then sheets; last, lists longer than any other. */
 #include "known.h"
 #include "limits.h"
 #include "vectors.h"
 
 #include <inttypes.h>
-#include <stdarg.h>
 #include <stdio.h>
 #include <stdlib.h>
 #include <string.h>
 
 #define COUNT(array) (sizeof(array) / sizeof(array)[0])
+#define LONG_LIST 400 /* plates */
 
-static void put(const char *format, ...)
+static void put_pair(enum vector_kind kind, uint64_t n, uint64_t by)
 {
-    static size_t written;
-    va_list values;
-    va_start(values, format);
-    written += (size_t)vprintf(format, values);
-    va_end(values);
-    if (written > VECTOR_BYTES) {
-        fprintf(stderr, "vectors: more than %d bytes\n", VECTOR_BYTES);
-        exit(1);
-    }
+    printf("%d %" PRIu64 " %" PRIu64 "\n", (int)kind, n, by);
 }
 
-/* ---- Kind 4: Table 1 ---- */
+static void put_root(uint64_t n)
+{
+    printf("%d %" PRIu64 "\n", (int)KIND_ROOT, n);
+}
+
+/* ---- Table 1 ---- */
 
 static void put_design_stresses(void)
 {
@@ -35,20 +32,15 @@ static void put_design_stresses(void)
         {UINT32_MAX, 150}, {UINT32_MAX, 0}, {0, UINT32_MAX}, {UINT32_MAX, UINT32_MAX}};
     for (uint32_t material = 1; material <= 11; material++)
         for (size_t i = 0; i < COUNT(temperatures); i++)
-            put("4 %" PRIu32 " %" PRIu32 "\n", material, temperatures[i]);
+            put_pair(KIND_DESIGN_STRESS, material, temperatures[i]);
     for (size_t i = 0; i < COUNT(ends); i++)
-        put("4 %" PRIu32 " %" PRIu32 "\n", ends[i][0], ends[i][1]);
+        put_pair(KIND_DESIGN_STRESS, ends[i][0], ends[i][1]);
 }
 
-/* ---- Kinds 5 to 7: least whole numbers ---- */
-
-static void put_pair(int kind, uint64_t n, uint64_t by)
-{
-    put("%d %" PRIu64 " %" PRIu64 "\n", kind, n, by);
-}
+/* ---- Least whole numbers ---- */
 
 /* n and its neighbours. */
-static void put_about(int kind, uint64_t n, uint64_t by)
+static void put_about(enum vector_kind kind, uint64_t n, uint64_t by)
 {
     put_pair(kind, n - 1, by);
     put_pair(kind, n, by);
@@ -60,32 +52,32 @@ static void put_printed(void)
 {
     const uint64_t reaction_diameter = 4900, operating_load = 219251, flange_load = 289626; /* G, Wm1, W */
     const uint64_t ten_10 = UINT64_C(10000000000), d_squared = 25000000;
-    put_pair(5, 78500 * reaction_diameter * reaction_diameter * 1000 + 628 * 500 * reaction_diameter * 200000, ten_10);
-    put_pair(5, 314 * 500 * reaction_diameter * 110, 1000000);
-    put_pair(5, 10 * operating_load * 100 + 36000 * 10000, 2000);
-    put_about(5, operating_load * ten_10, ten_10);
-    put_about(7, 1000 * d_squared, 40 * 108);
-    put_about(7, 1080 * d_squared, 40 * 108);
-    put_pair(7, 1081 * d_squared, 40 * 108);
-    put_pair(7, 1000 * d_squared, 40 * 89);
-    put_pair(7, 1000 * d_squared, 30 * 108);
-    put_pair(7, 31752 * 126, 1000);
-    put_pair(7, 31752 * 127, 1000);
-    put_about(7, 31752 * 500, 1000);
-    put_pair(7, 3 * reaction_diameter * reaction_diameter * reaction_diameter * 1000 + 954500 * operating_load * 700,
+    put_pair(KIND_QUOTIENT, 78500 * reaction_diameter * reaction_diameter * 1000 + 628 * 500 * reaction_diameter * 200000, ten_10);
+    put_pair(KIND_QUOTIENT, 314 * 500 * reaction_diameter * 110, 1000000);
+    put_pair(KIND_QUOTIENT, 10 * operating_load * 100 + 36000 * 10000, 2000);
+    put_about(KIND_QUOTIENT, operating_load * ten_10, ten_10);
+    put_about(KIND_ROOT_OVER, 1000 * d_squared, 40 * 108);
+    put_about(KIND_ROOT_OVER, 1080 * d_squared, 40 * 108);
+    put_pair(KIND_ROOT_OVER, 1081 * d_squared, 40 * 108);
+    put_pair(KIND_ROOT_OVER, 1000 * d_squared, 40 * 89);
+    put_pair(KIND_ROOT_OVER, 1000 * d_squared, 30 * 108);
+    put_pair(KIND_ROOT_OVER, 31752 * 126, 1000);
+    put_pair(KIND_ROOT_OVER, 31752 * 127, 1000);
+    put_about(KIND_ROOT_OVER, 31752 * 500, 1000);
+    put_pair(KIND_ROOT_OVER, 3 * reaction_diameter * reaction_diameter * reaction_diameter * 1000 + 954500 * operating_load * 700,
              100 * 108 * reaction_diameter);
-    put_pair(7, 954500 * flange_load * 700, 100 * 108 * reaction_diameter);
-    put_pair(7, 954500 * operating_load * 700, 100 * 108 * reaction_diameter);
+    put_pair(KIND_ROOT_OVER, 954500 * flange_load * 700, 100 * 108 * reaction_diameter);
+    put_pair(KIND_ROOT_OVER, 954500 * operating_load * 700, 100 * 108 * reaction_diameter);
 }
 
 static void put_small(void)
 {
     for (uint64_t i = 0; i < 40; i++)
-        put_pair(5, i / 4, i % 4);
+        put_pair(KIND_QUOTIENT, i / 4, i % 4);
     for (uint64_t n = 0; n <= 26; n++)
-        put("6 %" PRIu64 "\n", n);
+        put_root(n);
     for (uint64_t i = 0; i < 52; i++)
-        put_pair(7, i / 4, i % 4);
+        put_pair(KIND_ROOT_OVER, i / 4, i % 4);
 }
 
 static void put_ends(void)
@@ -97,26 +89,31 @@ static void put_ends(void)
         {0, 0}, {UINT64_C(1) << 63, 1}, {UINT64_C(1) << 63, 2}, {UINT64_C(1) << 63, UINT64_C(1) << 32}};
     for (size_t i = 0; i < COUNT(roots); i++) {
         uint64_t square = roots[i] * roots[i];
-        put("6 %" PRIu64 "\n6 %" PRIu64 "\n6 %" PRIu64 "\n", square - 1, square, square + 1);
-        put_about(7, 13 * (square / 16), 13);
+        put_root(square - 1);
+        put_root(square);
+        put_root(square + 1);
+        put_about(KIND_ROOT_OVER, 13 * (square / 16), 13);
     }
-    put("6 %" PRIu64 "\n6 %" PRIu64 "\n6 %" PRIu64 "\n", UINT64_MAX, UINT64_MAX - 1, UINT64_C(1) << 63);
+    put_root(UINT64_MAX);
+    put_root(UINT64_MAX - 1);
+    put_root(UINT64_C(1) << 63);
     for (size_t i = 0; i < COUNT(ends); i++) {
-        put_pair(5, ends[i][0], ends[i][1]);
-        put_pair(7, ends[i][0], ends[i][1]);
+        put_pair(KIND_QUOTIENT, ends[i][0], ends[i][1]);
+        put_pair(KIND_ROOT_OVER, ends[i][0], ends[i][1]);
     }
 }
 
-/* ---- Writing a question: as numbers (kinds 1 and 2) or as a sheet (kind 3) ---- */
+/* ---- Writing a question, as numbers or as a sheet ---- */
 
 static void put_question(const struct question *question)
 {
-    put("%d", question->part == PART_END ? 1 : 2);
-    for (size_t i = 0; i < number_count(question->part); i++)
-        put(" %" PRIu32, question->numbers[i]);
+    static const enum vector_kind kinds[PARTS] = {[PART_END] = KIND_ENDPLATE, [PART_BLIND] = KIND_BLIND_FLANGE};
+    printf("%d", (int)kinds[question->part]);
+    for (size_t i = 0; i < paper_parts[question->part].numbers; i++)
+        printf(" %" PRIu32, question->numbers[i]);
     for (size_t i = 0; i < question->plate_count; i++)
-        put(" %" PRIu32, question->plates[i]);
-    put("\n");
+        printf(" %" PRIu32, question->plates[i]);
+    printf("\n");
 }
 
 /* A byte that no line can hold is written as another of its sort. */
@@ -132,7 +129,7 @@ static void put_text(uint32_t room, const struct text *text)
         else
             line[i] = memchr(vector_signs, text->bytes[i], VECTOR_SIGNS) == NULL ? (char)text->bytes[i] : '%';
     }
-    put("3 %" PRIu32 " %s\n", room, line);
+    printf("%d %" PRIu32 " %s\n", (int)KIND_SHEET, room, line);
 }
 
 static void put_sheet(const struct question *question)
@@ -192,8 +189,13 @@ static void put_mends(
 
 static void put_causes(void (*put_it)(const struct question *))
 {
-    static const uint32_t end[BLIND_NUMBERS] = {9, 0, 12, 301, 0, 499, 1001};
-    static const uint32_t blind[BLIND_NUMBERS] = {7, 301, 2001, 1001, 20001, 501, 651, 1801, 0, 77, 0, 101, 0, 401};
+    static const uint32_t end[BLIND_NUMBERS] = {
+        [END_FORM] = 9, [END_MATERIAL] = 0, [END_SHELL] = 12, [END_TEMPERATURE] = 301, [END_PRESSURE] = 0,
+        [END_DIAMETER] = 499, [END_ALLOWANCE] = 1001};
+    static const uint32_t blind[BLIND_NUMBERS] = {
+        [BLIND_MATERIAL] = 7, [BLIND_TEMPERATURE] = 301, [BLIND_PRESSURE] = 2001, [BLIND_ALLOWANCE] = 1001,
+        [BLIND_OD] = 20001, [BLIND_WIDTH] = 501, [BLIND_M] = 651, [BLIND_Y] = 1801, [BLIND_CIRCLE] = 0,
+        [BLIND_BOLT] = 77, [BLIND_ROOT] = 0, [BLIND_COUNT] = 101, [BLIND_SA] = 0, [BLIND_SB] = 401};
     static const struct mend end_mends[] = {
         {END_FORM, FORM_C}, {END_MATERIAL, 6}, {END_SHELL, 1}, {END_PRESSURE, 1000}, {END_TEMPERATURE, 225},
         {END_MATERIAL, 1}, {END_DIAMETER, 5000}, {END_ALLOWANCE, 100}};
@@ -248,7 +250,7 @@ static void put_drawn(struct rng *rng, int count, int wild, uint32_t most, void 
     }
 }
 
-/* ---- Kind 3 alone ---- */
+/* ---- Sheets alone ---- */
 
 /* One sheet with a part of it changed, in the signs of a line. */
 static void put_changes(void)
@@ -273,7 +275,7 @@ static void put_changes(void)
         {"part=end", "~part=end"}, {"part=end/", ""}};
     for (size_t i = 0; i < COUNT(changes); i++) {
         const char *at = strstr(sheet, changes[i].part), *after = at + strlen(changes[i].part);
-        put("3 %d %.*s%s%s\n", VECTOR_ROOM, (int)(at - sheet), sheet, changes[i].change, after);
+        printf("%d %d %.*s%s%s\n", (int)KIND_SHEET, VECTOR_ROOM, (int)(at - sheet), sheet, changes[i].change, after);
     }
 }
 
@@ -337,4 +339,5 @@ void make_vectors(void)
     put_drawn(&rng, 6, 0, 49, put_question);
     put_drawn(&rng, 44, 1, 3, put_question);
     put_sheets(&rng);
+    put_drawn(&rng, 6, 0, LONG_LIST, put_question);
 }
