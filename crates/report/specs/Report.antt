@@ -1,7 +1,8 @@
 -- The report of an answer: its figures in report order, or the two lines of a refusal.
-use Prim.Native.Nat.{ℕ}
+use Prim.Native.Nat.{ℕ, _+_}
 use Prim.Native.String.{String}
 use mathlib.Core.List.{List, [], _∷_, _++_}
+use lib.ListN.{length}
 use Rattle.rules.specs.Answer.{reportOf}
 use Rattle.rules.specs.declared.Answer.{Answer}
 use Rattle.rules.specs.declared.Answer.the-variants.{Endplate, BlindFlange, Refused}
@@ -41,6 +42,10 @@ numberLines (key ∷ keys) (n ∷ ns) = numberLine (ascii key) n ++ numberLines 
 unfoldable pub reportText : Answer → List ℕ
 reportText answer = numberLines (keysOf answer) (reportNumbers answer)
 
--- no report is longer: eleven lines, each of a key of at most 7 bytes, =, at most 20 digits and LF
+-- what a line may take: its key, =, at most 20 digits and LF
+abbrev pub lineRoom : List ℕ → ℕ
+lineRoom key = length key + 22
+
+-- no report is longer; a blind flange's eleven lines may take 279
 abbrev pub longest : ℕ
 longest = 319

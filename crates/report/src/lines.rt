@@ -6,7 +6,7 @@ ghost use Prim.Native.Nat.{_+_, _≤_};
 ghost use lib.ListN.{length};
 ghost use Rattle.rules.specs.declared.Answer.the-variants.{Endplate, BlindFlange, Refused};
 ghost use Rattle.text.specs.Decimal.{decimal, numberLine};
-ghost use Rattle.report.specs.Report.{reportText, longest};
+ghost use Rattle.report.specs.Report.{reportText, lineRoom, longest};
 ghost use Rattle.report.specs.Space.{Wrote};
 
 // Writes the bytes from index `at` on, and answers the index after them. So do all writers here.
@@ -30,10 +30,9 @@ fn put_decimal(out: &mut [u8], at: usize, n: u64) -> usize
 
 // Key, `=`, number, LF.
 fn put_line(out: &mut [u8], at: usize, key: &[u8], n: u64) -> usize
-    requires { ⌜ length (now key) ≤ 7 ⌝ }
-    requires { ⌜ at + 29 ≤ length (now out) ⌝ }
+    requires { ⌜ at + lineRoom (now key) ≤ length (now out) ⌝ }
     ensures { λ r. ⌜ Wrote (now (out .entry)) at (numberLine (now (key .entry)) n) r (now (out .exit)) ⌝ }
-    ensures short { λ r. ⌜ r ≤ at + 29 ⌝ }
+    ensures short { λ r. ⌜ r ≤ at + lineRoom (now (key .entry)) ⌝ }
 {
     let at = put(out, at, key);
     let at = put(out, at, b"=");

@@ -1,47 +1,62 @@
--- The need and the edge of an accepted answer are read back out of its report. Assumes nothing.
+-- Any line of a report, the need's and the edge's among them, is read back by its key. Assumes nothing.
 use Prim.Native.Nat.{ℕ}
-use mathlib.Core.Path.{_≡_, refl, _∙_}
-use Rattle.rules.specs.declared.EndplateFigures.{EndplateFigures}
-use Rattle.rules.specs.declared.BlindFlangeFigures.{BlindFlangeFigures}
-use Rattle.rules.specs.declared.Answer.the-variants.{Endplate, BlindFlange}
+use Prim.Native.String.{String}
+use mathlib.Core.Bool.{Bool, true, cond, _&&_, and-eq-true-iff}
+use mathlib.Core.List.{List, [], _∷_}
+use mathlib.Core.Path.{_≡_, refl, ap, _∙_}
+use borrow.Author.Tests.{eqb-true}
+use lib.Dec.{eqb}
+use lib.ListN.{length}
+use Rattle.rules.specs.declared.Answer.{Answer}
+use Rattle.rules.specs.declared.Answer.the-variants.{Endplate, BlindFlange, Refused}
 use Rattle.bytes.specs.Bytes.{indexOf, indexAfter}
-use Rattle.text.specs.Ascii.{ascii}
-use Rattle.text.specs.Decimal.{numberLine}
-use Rattle.text.specs.Printed.{printed}
-use Rattle.text.specs.declared.number.Number.the-variants.{Value}
-use Rattle.text.specs.Laws.RoundTrip.{printed-here, printed-later}
-use Rattle.report.specs.Report.{reportText}
+use Rattle.text.specs.Ascii.{ascii, equals, lineFeed}
+use Rattle.text.specs.Line.{same}
+use Rattle.text.specs.Printed.{printedFrom, printed}
+use Rattle.text.specs.declared.number.Number.{Number}
+use Rattle.text.specs.declared.number.Number.the-variants.{Value, Malformed}
+use Rattle.text.specs.Laws.Joined.{Lacks}
+use Rattle.text.specs.Laws.RoundTrip.{printed-line}
+use Rattle.report.specs.Report.{keysOf, reportNumbers, numberLines, reportText}
 
-pub endplate-need : (f : EndplateFigures) (plate : ℕ)
-    → printed "need" (reportText (Endplate f plate)) ≡ Value (f .thickness)
-unfolding reportText numberLine indexOf indexAfter
-endplate-need f plate =
-    printed-later (ascii "need") (ascii "stress") _ (f .«design_stress») 10 refl refl
-    ∙ printed-here (ascii "need") _ (f .thickness) refl 9
+-- the number beside the first key that is this one
+abbrev pub numberBeside : String → List String → List ℕ → Number
+numberBeside key [] ns = Malformed
+numberBeside key (own ∷ keys) [] = Malformed
+numberBeside key (own ∷ keys) (n ∷ ns) =
+    let later = numberBeside key keys ns in
+    cond (same (ascii key) (ascii own)) (Value n) later
 
-pub flange-need : (f : BlindFlangeFigures) (plate : ℕ)
-    → printed "need" (reportText (BlindFlange f plate)) ≡ Value (f .thickness)
-unfolding reportText numberLine indexOf indexAfter
-flange-need f plate =
-    printed-later (ascii "need") (ascii "stress") _ (f .«design_stress») 10 refl refl
-    ∙ printed-later (ascii "need") (ascii "cold") _ (f .«ambient_stress») 9 refl refl
-    ∙ printed-later (ascii "need") (ascii "g") _ (f .«reaction_diameter») 8 refl refl
-    ∙ printed-later (ascii "need") (ascii "b") _ (f .«effective_width») 7 refl refl
-    ∙ printed-later (ascii "need") (ascii "wm1") _ (f .«operating_load») 6 refl refl
-    ∙ printed-later (ascii "need") (ascii "wm2") _ (f .«seating_load») 5 refl refl
-    ∙ printed-later (ascii "need") (ascii "w") _ (f .«flange_load») 4 refl refl
-    ∙ printed-here (ascii "need") _ (f .thickness) refl 3
+-- a key that has neither = nor LF
+abbrev pub plain : String → Bool
+plain key =
+    let bytes = ascii key in
+    eqb (indexOf equals bytes) (length bytes) && eqb (indexOf lineFeed bytes) (length bytes)
 
-pub flange-edge : (f : BlindFlangeFigures) (plate : ℕ)
-    → printed "edge" (reportText (BlindFlange f plate)) ≡ Value (f .«edge_thickness»)
-unfolding reportText numberLine indexOf indexAfter
-flange-edge f plate =
-    printed-later (ascii "edge") (ascii "stress") _ (f .«design_stress») 10 refl refl
-    ∙ printed-later (ascii "edge") (ascii "cold") _ (f .«ambient_stress») 9 refl refl
-    ∙ printed-later (ascii "edge") (ascii "g") _ (f .«reaction_diameter») 8 refl refl
-    ∙ printed-later (ascii "edge") (ascii "b") _ (f .«effective_width») 7 refl refl
-    ∙ printed-later (ascii "edge") (ascii "wm1") _ (f .«operating_load») 6 refl refl
-    ∙ printed-later (ascii "edge") (ascii "wm2") _ (f .«seating_load») 5 refl refl
-    ∙ printed-later (ascii "edge") (ascii "w") _ (f .«flange_load») 4 refl refl
-    ∙ printed-later (ascii "edge") (ascii "need") _ (f .thickness) 3 refl refl
-    ∙ printed-here (ascii "edge") _ (f .«edge_thickness») refl 2
+abbrev pub allPlain : List String → Bool
+allPlain [] = true
+allPlain (key ∷ keys) = plain key && allPlain keys
+
+plain-lacks : (key : String) → plain key ≡ true → Lacks equals (ascii key) × Lacks lineFeed (ascii key)
+plain-lacks key e =
+    let both = and-eq-true-iff _ _ .0 e in
+    (eqb-true _ _ (both .0), eqb-true _ _ (both .1))
+
+lines-shown : (key : String) (keys : List String) (ns : List ℕ) → plain key ≡ true → allPlain keys ≡ true
+    → printed key (numberLines keys ns) ≡ numberBeside key keys ns
+unfolding printedFrom
+lines-shown key [] ns p q = refl
+lines-shown key (own ∷ keys) [] p q = refl
+lines-shown key (own ∷ keys) (n ∷ ns) p q =
+    let both = and-eq-true-iff _ _ .0 q in
+    let l = plain-lacks own (both .0) in
+    printed-line (ascii key) (ascii own) (numberLines keys ns) n (plain-lacks key p .0) (l .0) (l .1)
+    ∙ ap (cond (same (ascii key) (ascii own)) (Value n)) (lines-shown key keys ns p (both .1))
+
+-- the keys of every report are plain
+pub report-shows : (key : String) (answer : Answer) → plain key ≡ true
+    → printed key (reportText answer) ≡ numberBeside key (keysOf answer) (reportNumbers answer)
+unfolding reportText indexOf indexAfter
+report-shows key (Endplate f plate) p = lines-shown key (keysOf (Endplate f plate)) (reportNumbers (Endplate f plate)) p refl
+report-shows key (BlindFlange f plate) p = lines-shown key (keysOf (BlindFlange f plate)) (reportNumbers (BlindFlange f plate)) p refl
+report-shows key (Refused cause figure) p = lines-shown key (keysOf (Refused cause figure)) (reportNumbers (Refused cause figure)) p refl

@@ -18,13 +18,18 @@ begins-append (b ∷ s) t = rw (eq-eqb b b refl) (begins-append s t)
 abbrev pub Lacks : ℕ → List ℕ → Type 0
 Lacks b xs = indexOf b xs ≡ length xs
 
+-- nor is it the first of them, nor among the others
+pub lacks-cons : (b x : ℕ) (xs : List ℕ) → Lacks b (x ∷ xs) → (eqb x b ≡ false) × Lacks b xs
+unfolding indexOf indexAfter
+lacks-cons b x xs e = go (eqb x b) refl e
+  where
+    go : (t : Bool) → eqb x b ≡ t → indexAfter t (indexOf b xs) ≡ suc (length xs) → (eqb x b ≡ false) × Lacks b xs
+    go true q e = absurd (omega arith)
+    go false q e = (q, omega arith)
+
 pub index-append : (b : ℕ) (xs ys : List ℕ) → Lacks b xs → indexOf b (xs ++ ys) ≡ length xs + indexOf b ys
 unfolding indexOf indexAfter
 index-append b [] ys e = omega arith
-index-append b (x ∷ xs) ys e = go (eqb x b) e (index-append b xs ys)
-  where
-    go : (t : Bool) → indexAfter t (indexOf b xs) ≡ suc (length xs)
-        → (indexOf b xs ≡ length xs → indexOf b (xs ++ ys) ≡ length xs + indexOf b ys)
-        → indexAfter t (indexOf b (xs ++ ys)) ≡ suc (length xs) + indexOf b ys
-    go true q f = absurd (omega arith)
-    go false q f = omega (arith, f (omega arith))
+index-append b (x ∷ xs) ys e =
+    let l = lacks-cons b x xs e in
+    rw (l .0) (omega (arith, index-append b xs ys (l .1)))

@@ -40,7 +40,7 @@ start c =
 -- after five lines of eleven
 room : (c : tie.After-put-line5)
     → let space = c .put-line5 .last .0 in
-    (c .put-line5 .result ≤ 145) × (longest ≤ length space) × (length space ≡ length (start c .args .out .now))
+    (c .put-line5 .result ≤ 125) × (longest ≤ length space) × (length space ≡ length (start c .args .out .now))
 room c = (omega arith, omega arith, omega arith)
 
 -- ---- the lines one after another
@@ -91,14 +91,14 @@ blind-flange-lines-spec =
     (λ c. search needs)
     (λ c κs. search needs)
     (λ c. search needs)
-    (λ c κs. let r = room (from6 (c .before .before .before .before)) in (search needs, omega arith))
+    (λ c κs. let r = room (from6 (c .before .before .before .before)) in omega arith)
     (λ c. search needs)
-    (λ c κs. let r = room (from7 (c .before .before .before .before)) in (search needs, omega arith))
+    (λ c κs. let r = room (from7 (c .before .before .before .before)) in omega arith)
     (λ c. search needs)
-    (λ c κs. let r = room (from8 (c .before .before .before .before)) in (search needs, omega arith))
+    (λ c κs. let r = room (from8 (c .before .before .before .before)) in omega arith)
     (λ c. search needs)
-    (λ c κs. let r = room (from9 (c .before .before .before .before)) in (search needs, omega arith))
+    (λ c κs. let r = room (from9 (c .before .before .before .before)) in omega arith)
     (λ c. search needs)
-    (λ c κs. let r = room (from10 (c .before .before .before .before)) in (search needs, omega arith))
+    (λ c κs. let r = room (from10 (c .before .before .before .before)) in omega arith)
     (λ c. let r = room (from11 (c .before .before)) in omega arith)
     returns)
