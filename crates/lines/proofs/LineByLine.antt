@@ -17,8 +17,8 @@ use Rattle.text.specs.Plates.{platesHeld}
 use Rattle.text.specs.declared.number.Number.{Number}
 use Rattle.text.specs.declared.number.Number.the-variants.{Value, Malformed}
 use Rattle.text.specs.Laws.Padded.{zeros-fill}
-use Rattle.lines.specs.Fields.{Field, lineOf, fieldOf, fieldsOf, noField}
-use Rattle.lines.specs.Lines.{Lines, fault, given, ahead, platesLine, lastLine, linesOf, mostFields, linesHeld}
+use Rattle.lines.specs.Fields.{Field, lineOf, fieldOf, fieldsOf, noField, mostFields}
+use Rattle.lines.specs.Lines.{Lines, fault, given, ahead, platesLine, lastLine, linesOf, linesHeld}
 
 -- the numbers read so far, before what the rest is read as
 abbrev pub prepend : List ℕ → Lines → Lines

@@ -1,8 +1,9 @@
 -- The lines of the two sheets between the part and the plates: keys in order, and how each value is read.
-use Prim.Native.Nat.{ℕ}
+use Prim.Native.Nat.{ℕ, suc}
 use Prim.Native.String.{String}
 use mathlib.Core.Bool.{Bool, cond}
 use mathlib.Core.List.{List, [], _∷_}
+use lib.ListN.{length, getD}
 use Rattle.text.specs.Ascii.{ascii}
 use Rattle.text.specs.Line.{same, isLine, valueOf}
 use Rattle.text.specs.Number.{numberOf}
@@ -62,3 +63,16 @@ fieldsOf blind = cond blind blindFlangeFields endplateFields
 -- at an index past the fields; no line is read with it
 abbrev pub noField : Field
 noField = ("", λ v. Malformed)
+
+-- where a key stands among them
+abbrev pub placeOf : String → List Field → ℕ
+placeOf key [] = 0
+placeOf key (field ∷ fields) = let later = placeOf key fields in cond (same (ascii key) (ascii (field .0))) 0 (suc later)
+
+-- the number of the field of this key, of numbers in the order of the fields
+abbrev pub numberNamed : List Field → List ℕ → String → ℕ
+numberNamed fields numbers key = getD numbers (placeOf key fields) 0
+
+-- room for the numbers of either sheet
+abbrev pub mostFields : ℕ
+mostFields = length blindFlangeFields

@@ -11,7 +11,7 @@ use Rattle.text.specs.Padded.{padded}
 use Rattle.text.specs.Plates.{mostPlates, platesOf}
 use Rattle.text.specs.declared.number.Number.{Number}
 use Rattle.text.specs.declared.number.Number.the-variants.{Value, Malformed}
-use Rattle.lines.specs.Fields.{Field, fieldOf}
+use Rattle.lines.specs.Fields.{Field, fieldOf, mostFields}
 use Rattle.lines.specs.declared.SheetLines.{SheetLines}
 
 pub data Lines : Type 0 where
@@ -43,9 +43,6 @@ linesOf line (field ∷ fields) t =
     ahead line (fieldOf field t) rest
 
 -- how they are handed back
-abbrev pub mostFields : ℕ
-mostFields = 14
-
 abbrev pub linesHeld : Lines → SheetLines
 linesHeld (fault k) =
     record { ok = false; fault = k; values = padded mostFields []; count = 0; plates = padded mostPlates [] }

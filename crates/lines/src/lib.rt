@@ -1,4 +1,6 @@
 // The lines of a sheet after the first, from their bytes to numbers and plates.
+pub mod blind_flange;
+pub mod endplate;
 mod fields;
 
 use fields::field;
@@ -15,11 +17,14 @@ ghost use Rattle.lines.specs.Fields.{fieldsOf};
 ghost use Rattle.text.specs.Plates.{platesHeld};
 ghost use Rattle.lines.specs.Lines.{platesLine, linesOf, linesHeld, Lines};
 
+// Room for the numbers of either sheet.
+pub const MOST_FIELDS: usize = blind_flange::FIELDS;
+
 // The numbers of the fields, in order, and as many plates as `count` says; or the number of the first line at fault.
 pub struct SheetLines {
     pub ok: bool,
     pub fault: u32,
-    pub values: [u32; 14],
+    pub values: [u32; MOST_FIELDS],
     pub count: usize,
     pub plates: [u32; 32],
 }
@@ -30,7 +35,7 @@ fn faulty(line: u32) -> SheetLines
     SheetLines {
         ok: false,
         fault: line,
-        values: [0; 14],
+        values: [0; MOST_FIELDS],
         count: 0,
         plates: [0; 32],
     }
@@ -51,7 +56,7 @@ pub fn read_lines(text: &[u8], blind: bool) -> SheetLines
     ensures { λ r. ⌜ r ≡ linesHeld (linesOf 2 (fieldsOf blind) (now (text .entry))) ⌝ }
 {
     let fields = field_count(blind);
-    let mut values = [0u32; 14];
+    let mut values = [0u32; MOST_FIELDS];
     let mut t = text;
     let mut i = 0;
     while i < fields {

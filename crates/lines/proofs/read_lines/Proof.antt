@@ -11,8 +11,8 @@ use Rattle.text.specs.Line.{after}
 use Rattle.text.specs.Plates.{platesHeld}
 use Rattle.text.specs.declared.plates.Plates.{Plates}
 use Rattle.text.specs.Laws.Padded.{zeros-after}
-use Rattle.lines.specs.Fields.{fieldsOf}
-use Rattle.lines.specs.Lines.{fault, platesLine, lastLine, linesOf, mostFields, linesHeld}
+use Rattle.lines.specs.Fields.{fieldsOf, mostFields}
+use Rattle.lines.specs.Lines.{fault, platesLine, lastLine, linesOf, linesHeld}
 use Rattle.lines.proofs.LineByLine.{prepend, prepend-nothing, fields-fit, line-fault, line-more}
 use Rattle.lines.proofs.LineByLine.{lines-last, last-fault, last-more, last-given, linesHeld-fault}
 use Rattle.lines.proofs.read_lines.Statement.{statement}

@@ -1,17 +1,14 @@
--- `fields::endplate_field` meets its contract. Assumes nothing.
+-- `endplate::endplate_field` meets its contract. Assumes nothing.
 use mathlib.Core.Path.{_≡_}
 use native.Mathlib.Omega.{arith}
 use borrow.Author.Needs.{needs}
 use Rattle.lines.proofs.LastArm.{past-all}
-use Rattle.lines.proofs.fields.endplate_field.Statement.{statement}
-use Rattle.lines.proofs.fields.endplate_field.Tie as tie
+use Rattle.lines.proofs.endplate.endplate_field.Statement.{statement}
+use Rattle.lines.proofs.endplate.endplate_field.Tie as tie
 
-last : tie.Need-returns-7
-last c =
-    let m = c .before .before in
-    let s = m .before .before .args in
-    let i : s .i ≡ 6 = omega (arith, past-all 6 (s .i) (m .match .rest)) in
-    rw i (c .number-line6 .ensures)
+-- the index is one of theirs
+no-other : tie.Need-returns-8
+no-other c = absurd (omega (arith, past-all 7 (c .before .before .args .i) (c .match .rest)))
 
 pub endplate-field-spec : {M : Type 1} → statement M
 endplate-field-spec =
@@ -37,4 +34,5 @@ endplate-field-spec =
     (λ c. rw (c .before .before .match .keys4) (c .number-line3 .ensures))
     (λ c. rw (c .before .before .match .keys5) (c .number-line4 .ensures))
     (λ c. rw (c .before .before .match .keys6) (c .number-line5 .ensures))
-    last)
+    (λ c. rw (c .before .before .match .keys7) (c .number-line6 .ensures))
+    no-other)

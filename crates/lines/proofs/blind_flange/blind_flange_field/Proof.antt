@@ -1,17 +1,14 @@
--- `fields::blind_flange_field` meets its contract. Assumes nothing.
+-- `blind_flange::blind_flange_field` meets its contract. Assumes nothing.
 use mathlib.Core.Path.{_≡_}
 use native.Mathlib.Omega.{arith}
 use borrow.Author.Needs.{needs}
 use Rattle.lines.proofs.LastArm.{past-all}
-use Rattle.lines.proofs.fields.blind_flange_field.Statement.{statement}
-use Rattle.lines.proofs.fields.blind_flange_field.Tie as tie
+use Rattle.lines.proofs.blind_flange.blind_flange_field.Statement.{statement}
+use Rattle.lines.proofs.blind_flange.blind_flange_field.Tie as tie
 
-last : tie.Need-returns-14
-last c =
-    let m = c .before .before in
-    let s = m .before .before .args in
-    let i : s .i ≡ 13 = omega (arith, past-all 13 (s .i) (m .match .rest)) in
-    rw i (c .number-line14 .ensures)
+-- the index is one of theirs
+no-other : tie.Need-returns-15
+no-other c = absurd (omega (arith, past-all 14 (c .before .before .args .i) (c .match .rest)))
 
 pub blind-flange-field-spec : {M : Type 1} → statement M
 blind-flange-field-spec =
@@ -58,4 +55,5 @@ blind-flange-field-spec =
     (λ c. rw (c .before .before .match .keys11) (c .number-line11 .ensures))
     (λ c. rw (c .before .before .match .keys12) (c .number-line12 .ensures))
     (λ c. rw (c .before .before .match .keys13) (c .number-line13 .ensures))
-    last)
+    (λ c. rw (c .before .before .match .keys14) (c .number-line14 .ensures))
+    no-other)
