@@ -103,8 +103,7 @@ pub extern "C" fn scantling_sheet(text: &[u8], out: &mut [u8]) -> usize
     ensures exact { λ _. ⌜ SheetExact (now (text .entry)) ⌝ }
     ensures short { λ r. ⌜ r ≤ longest ⌝ }
 {
-    let outcome = sheet::answer(text, out);
-    sheet::length_of(outcome)
+    sheet::write_report(text, out)
 }
 
 // The least root by itself, for measuring.

@@ -1,6 +1,5 @@
 // Reads one sheet on standard input, at most 4,096 bytes of it, and prints its report.
-use sheet::answer;
-use sheet::length_of;
+use sheet::write_report;
 ghost use Prim.Native.Nat.{_≤_};
 ghost use mathlib.Core.Path.{_≡_};
 ghost use lib.ListN.{length, take};
@@ -13,14 +12,13 @@ fn report_of(text: &[u8], out: &mut [u8]) -> usize
     ensures { λ r. ⌜ take r (now (out .exit)) ≡ reportFor (now (text .entry)) ⌝ }
     ensures short { λ r. ⌜ r ≤ longest ⌝ }
 {
-    length_of(answer(text, out))
+    write_report(text, out)
 }
 
 fn main() {
     let mut input = [0u8; 4096];
     let size = io::read_full(0, &mut input);
-    // One byte more than the longest report.
-    let mut space = [0u8; 320];
+    let mut space = [0u8; report::LONGEST];
     let length = report_of(&input[..size], &mut space);
     io::write_all(1, &space[..length]);
 }

@@ -2,7 +2,6 @@
 use Prim.Native.Nat.{ℕ}
 use mathlib.Core.Bool.{Bool, true, false, cond, _&&_}
 use mathlib.Core.List.{List, []}
-use lib.ListN.{getD}
 use Rattle.rules.specs.Answer.{endplateAnswer, blindFlangeAnswer}
 use Rattle.rules.specs.Numbers.{endplateCause, endplateFigure, endplateReport}
 use Rattle.rules.specs.Numbers.{blindFlangeCause, blindFlangeFigure, blindFlangeReport}
@@ -12,7 +11,7 @@ use Rattle.rules.specs.declared.Answer.{Answer}
 use Rattle.rules.specs.declared.Answer.the-variants.{Refused}
 use Rattle.text.specs.Ascii.{ascii, lineFeed}
 use Rattle.text.specs.Line.{same, isLine, valueOf, after}
-use Rattle.lines.specs.Fields.{fieldsOf}
+use Rattle.lines.specs.Fields.{endplateFields, blindFlangeFields, fieldsOf, numberNamed}
 use Rattle.lines.specs.Lines.{Lines, fault, given, linesOf}
 
 pub data Sheet : Type 0 where
@@ -21,37 +20,39 @@ pub data Sheet : Type 0 where
   endplate : EndplateSheet → List ℕ → Sheet
   blindFlange : BlindFlangeSheet → List ℕ → Sheet
 
--- the numbers of an endplate's lines
+-- the numbers of an endplate's lines, each by its key
 abbrev pub endplateSheet : List ℕ → EndplateSheet
 endplateSheet v =
+    let the = numberNamed endplateFields v in
     record {
-      form = getD v 0 0;
-      material = getD v 1 0;
-      shell = getD v 2 0;
-      temperature = getD v 3 0;
-      pressure = getD v 4 0;
-      diameter = getD v 5 0;
-      allowance = getD v 6 0;
+      form = the "form";
+      material = the "material";
+      shell = the "shell";
+      temperature = the "temp";
+      pressure = the "pressure";
+      diameter = the "dia";
+      allowance = the "allow";
     }
 
 -- the numbers of a blind flange's lines
 abbrev pub blindFlangeSheet : List ℕ → BlindFlangeSheet
 blindFlangeSheet v =
+    let the = numberNamed blindFlangeFields v in
     record {
-      material = getD v 0 0;
-      temperature = getD v 1 0;
-      pressure = getD v 2 0;
-      allowance = getD v 3 0;
-      od = getD v 4 0;
-      width = getD v 5 0;
-      m = getD v 6 0;
-      y = getD v 7 0;
-      circle = getD v 8 0;
-      bolt = getD v 9 0;
-      root = getD v 10 0;
-      count = getD v 11 0;
-      sa = getD v 12 0;
-      sb = getD v 13 0;
+      material = the "material";
+      temperature = the "temp";
+      pressure = the "pressure";
+      allowance = the "allow";
+      od = the "od";
+      width = the "width";
+      m = the "m";
+      y = the "y";
+      circle = the "circle";
+      bolt = the "bolt";
+      root = the "root";
+      count = the "count";
+      sa = the "sa";
+      sb = the "sb";
     }
 
 -- the lines after part=blind, or after part=end

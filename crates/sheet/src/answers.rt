@@ -1,4 +1,7 @@
 // The answer to a sheet: cause 1 with the line at fault, or what the rules say of its numbers.
+use lines::MOST_FIELDS;
+use lines::blind_flange;
+use lines::endplate;
 use lines::read_lines;
 use rules::Answer;
 use rules::BlindFlangeSheet;
@@ -15,38 +18,38 @@ ghost use Rattle.sheet.specs.Exact.{AnswerExact};
 
 const MALFORMED: u32 = 1;
 
-fn endplate_sheet(v: [u32; 14]) -> EndplateSheet
+fn endplate_sheet(v: [u32; MOST_FIELDS]) -> EndplateSheet
     ensures { λ r. ⌜ r ≡ endplateSheet v ⌝ }
 {
     EndplateSheet {
-        form: v[0],
-        material: v[1],
-        shell: v[2],
-        temperature: v[3],
-        pressure: v[4],
-        diameter: v[5],
-        allowance: v[6],
+        form: v[endplate::FORM],
+        material: v[endplate::MATERIAL],
+        shell: v[endplate::SHELL],
+        temperature: v[endplate::TEMPERATURE],
+        pressure: v[endplate::PRESSURE],
+        diameter: v[endplate::DIAMETER],
+        allowance: v[endplate::ALLOWANCE],
     }
 }
 
-fn blind_flange_sheet(v: [u32; 14]) -> BlindFlangeSheet
+fn blind_flange_sheet(v: [u32; MOST_FIELDS]) -> BlindFlangeSheet
     ensures { λ r. ⌜ r ≡ blindFlangeSheet v ⌝ }
 {
     BlindFlangeSheet {
-        material: v[0],
-        temperature: v[1],
-        pressure: v[2],
-        allowance: v[3],
-        od: v[4],
-        width: v[5],
-        m: v[6],
-        y: v[7],
-        circle: v[8],
-        bolt: v[9],
-        root: v[10],
-        count: v[11],
-        sa: v[12],
-        sb: v[13],
+        material: v[blind_flange::MATERIAL],
+        temperature: v[blind_flange::TEMPERATURE],
+        pressure: v[blind_flange::PRESSURE],
+        allowance: v[blind_flange::ALLOWANCE],
+        od: v[blind_flange::OD],
+        width: v[blind_flange::WIDTH],
+        m: v[blind_flange::M],
+        y: v[blind_flange::Y],
+        circle: v[blind_flange::CIRCLE],
+        bolt: v[blind_flange::BOLT],
+        root: v[blind_flange::ROOT],
+        count: v[blind_flange::COUNT],
+        sa: v[blind_flange::SA],
+        sb: v[blind_flange::SB],
     }
 }
 

@@ -67,7 +67,7 @@ pub fn answer(text: &[u8], out: &mut [u8]) -> Outcome
 }
 
 // The length of the report that results, whether it was written or not.
-pub fn length_of(outcome: Outcome) -> usize
+fn length_of(outcome: Outcome) -> usize
     ensures { λ r. ⌜ r ≡ lengthOf outcome ⌝ }
 {
     match outcome {
@@ -79,4 +79,16 @@ pub fn length_of(outcome: Outcome) -> usize
         } => length,
         Outcome::ShortSpace { length } => length,
     }
+}
+
+// Answers the sheet in `text` for callers who want the report alone: the length of the one that results. It stands at the
+// front of `out` if that is long enough; otherwise `out` is as it was.
+pub fn write_report(text: &[u8], out: &mut [u8]) -> usize
+    ensures { λ r. ⌜ r ≡ lengthFor (now (text .entry)) ⌝ }
+    ensures content { λ _. ⌜ now (out .exit) ≡ spaceOf (now (text .entry)) (now (out .entry)) ⌝ }
+    ensures exact { λ _. ⌜ SheetExact (now (text .entry)) ⌝ }
+    ensures short { λ r. ⌜ r ≤ longest ⌝ }
+{
+    let outcome = answer(text, out);
+    length_of(outcome)
 }

@@ -1,14 +1,7 @@
 -- `scantling_sheet` meets its contract. Assumes nothing.
-use mathlib.Core.Path.{_∙_}
 use borrow.Author.Needs.{needs}
 use Rattle.capi.proofs.scantling_sheet.Statement.{statement}
 use Rattle.capi.proofs.scantling_sheet.Tie as tie
 
-returns : tie.Need-returns
-returns c =
-    let made = c .before .before .before .answer .ensures .1 in
-    let n = c .length-of .ensures in
-    (n ∙ made .0 .2, (made .1 .0, (made .1 .1 .0, rw n (made .1 .1 .1))))
-
 pub scantling-sheet-spec : {M : Type 1} → statement M
-scantling-sheet-spec = tie.close (tie.spec (λ c κs. search needs) (λ c κs. search needs) (λ c. search needs) returns)
+scantling-sheet-spec = tie.close (tie.spec (λ c κs. search needs) (λ c. search needs) (λ c. c .before .before .write-report .ensures))
