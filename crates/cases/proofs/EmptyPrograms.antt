@@ -13,7 +13,7 @@ use Rattle.rules.specs.declared.Answer.the-variants.{Endplate, BlindFlange, Ref
 use Rattle.text.specs.Ascii.{lineFeed}
 use Rattle.text.specs.Line.{before, after, valueOf}
 use Rattle.text.specs.Decimal.{numberLine}
-use Rattle.text.specs.Printed.{printedWithin, printed}
+use Rattle.text.specs.Printed.{printedFrom, printed}
 use Rattle.text.specs.declared.number.Number.{Number}
 use Rattle.text.specs.declared.number.Number.the-variants.{Value}
 use Rattle.report.specs.Report.{reportText}
@@ -88,11 +88,11 @@ printed-outcome = rw printed-report (not-refused (answerOf printedSheet) 105 (rw
 
 -- the needs of the two ends, read out of their reports
 need-1080 : printed "need" (reportFor (endAt "pressure=1080")) ≡ Value 2500
-unfolding printedWithin indexOf indexAfter valueOf after
+unfolding printedFrom indexOf indexAfter valueOf
 need-1080 = rw end-1080
 
 need-1081 : printed "need" (reportFor (endAt "pressure=1081")) ≡ Value 2502
-unfolding printedWithin indexOf indexAfter valueOf after
+unfolding printedFrom indexOf indexAfter valueOf
 need-1081 = rw end-1081
 
 two-needs : {n : Number} → n ≡ Value 2500 → n ≡ Value 2502 → ⊥

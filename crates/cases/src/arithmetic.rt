@@ -1,17 +1,36 @@
-// Runs the tables and the root arithmetic: 4, material and temperature; 5, n and d; 6, n; 7, n and a factor.
+// Runs the tables and the root arithmetic.
 use crate::print::low;
 use crate::print::number;
 use crate::print::text;
 
-pub(crate) fn worked_out(kind: u64, a: u64, b: u64) {
+fn shown(n: u64) {
     text(b" =");
-    if kind == 4 {
-        number(tables::design_stress(low(a), low(b)) as u64);
-    } else if kind == 5 {
-        number(root::ceil_div(a, b));
-    } else if kind == 6 {
-        number(root::least_root(a));
-    } else {
-        number(root::least_root_over(a, b));
+    number(n);
+}
+
+// A material and a temperature.
+pub(crate) fn design_stress(n: &[u64]) {
+    if n.len() == 2 {
+        shown(tables::design_stress(low(n[0]), low(n[1])) as u64);
+    }
+}
+
+// A number and a divisor.
+pub(crate) fn quotient(n: &[u64]) {
+    if n.len() == 2 {
+        shown(root::ceil_div(n[0], n[1]));
+    }
+}
+
+pub(crate) fn root(n: &[u64]) {
+    if n.len() == 1 {
+        shown(root::least_root(n[0]));
+    }
+}
+
+// A number and a factor.
+pub(crate) fn root_over(n: &[u64]) {
+    if n.len() == 2 {
+        shown(root::least_root_over(n[0], n[1]));
     }
 }

@@ -1,42 +1,21 @@
-// A line of vectors, read byte by byte: numbers with spaces between, and after `3` and one number a text.
-use crate::sheets::stored;
+// A line of vectors: numbers with single spaces between, and in some kinds a text after them.
 use std::num::wrapping_add_u64;
+ghost use Prim.Native.Nat.{_≤_};
+ghost use lib.ListN.{length};
 
-// The numbers of a line and its text, as far as they are read.
-pub(crate) struct Line {
-    pub(crate) numbers: [u64; 64],
-    pub(crate) count: usize,
-    pub(crate) value: u64,
-    pub(crate) text: [u8; 512],
-    pub(crate) size: usize,
-}
+// No line of a piece has more.
+pub(crate) const MOST_NUMBERS: usize = 32768;
 
-pub(crate) fn empty() -> Line {
-    Line {
-        numbers: [0; 64],
-        count: 0,
-        value: 0,
-        text: [0; 512],
-        size: 0,
+// One number more, where there is room.
+fn push(numbers: &mut [u64], count: usize, value: u64) -> usize
+    requires { ⌜ count ≤ length (now numbers) ⌝ }
+    ensures { λ r. ⌜ r ≤ length (now (numbers .entry)) ⌝ }
+{
+    if count < numbers.len() {
+        numbers[count] = value;
+        return count + 1;
     }
-}
-
-// Bytes past 512 are lost.
-fn with_text(l: Line, byte: u8) -> Line {
-    let at = l.size;
-    if 512 <= at {
-        return l;
-    }
-    let mut next = l;
-    next.text[at] = stored(byte);
-    next.size = at + 1;
-    next
-}
-
-// The third part of a line that begins with 3.
-fn in_text(l: Line) -> bool {
-    let numbers = l.numbers;
-    (l.count == 2) & (numbers[0] == 3)
+    count
 }
 
 fn twice(n: u64) -> u64 {
@@ -44,33 +23,46 @@ fn twice(n: u64) -> u64 {
 }
 
 // Ten times the value and the digit; a number of 2^64 and more is not meant.
-fn with_digit(l: Line, digit: u8) -> Line {
-    let mut next = l;
-    let five = wrapping_add_u64(twice(twice(l.value)), l.value);
-    next.value = wrapping_add_u64(twice(five), (digit % 16) as u64);
-    next
+fn with_digit(value: u64, digit: u8) -> u64 {
+    let five = wrapping_add_u64(twice(twice(value)), value);
+    wrapping_add_u64(twice(five), (digit % 16) as u64)
 }
 
-// A number ends; the ones past 64 are lost.
-pub(crate) fn with_number(l: Line) -> Line {
-    let at = l.count;
-    if 64 <= at {
-        return l;
+// The number that the digits spell.
+fn decimal(digits: &[u8]) -> u64 {
+    let mut value: u64 = 0;
+    let mut i: usize = 0;
+    while i < digits.len() {
+        value = with_digit(value, digits[i]);
+        i += 1;
     }
-    let mut next = l;
-    next.numbers[at] = l.value;
-    next.count = at + 1;
-    next.value = 0;
-    next
+    value
 }
 
-// The line with one byte more: a digit, a space or a byte of the text.
-pub(crate) fn with_byte(l: Line, byte: u8) -> Line {
-    if in_text(l) {
-        return with_text(l, byte);
+// The numbers of the line, and how many. Of a text after them there is no more to expect than some number for each word.
+pub(crate) fn read_numbers(line: &[u8], numbers: &mut [u64]) -> usize
+    ensures { λ r. ⌜ r ≤ length (now (numbers .entry)) ⌝ }
+{
+    let mut count: usize = 0;
+    let mut start: usize = 0;
+    while start < line.len() {
+        let end = bytes::scan::find(line, start, line.len(), b' ');
+        count = push(numbers, count, decimal(&line[start..end]));
+        start = end + 1;
     }
-    if byte == b' ' {
-        return with_number(l);
+    count
+}
+
+fn after_space<'a>(t: &'a [u8]) -> &'a [u8] {
+    let end = bytes::scan::find(t, 0, t.len(), b' ');
+    if end < t.len() {
+        return &t[end + 1..];
     }
-    with_digit(l, byte)
+    &t[end..]
+}
+
+// What stands after the kind and one number.
+pub(crate) fn text_of<'a>(line: &'a [u8]) -> &'a [u8] {
+    let rest = after_space(line);
+    after_space(rest)
 }

@@ -3,16 +3,14 @@
 // files: host/vectors.c.
 mod answers;
 mod arithmetic;
-mod calculations;
+mod blind_flange;
+mod endplate;
 mod line;
+mod lists;
 mod print;
 mod sheets;
 mod vectors;
 
-use libc::STDIN_FILENO;
-
 fn main() {
-    let mut space = io::large_buffer();
-    let n = io::read_full(STDIN_FILENO, &mut space);
-    vectors::run(&space[..n]);
+    vectors::run();
 }

@@ -4,8 +4,13 @@
 use crate::print::number;
 use crate::print::text;
 use sheet::Outcome;
+ghost use Prim.Native.Nat.{_≤_};
+ghost use lib.ListN.{length};
 
-pub(crate) fn stored(byte: u8) -> u8 {
+// The array's length.
+const ROOM: usize = 160;
+
+fn stored(byte: u8) -> u8 {
     if byte == b'/' {
         return b'\n';
     }
@@ -21,14 +26,29 @@ pub(crate) fn stored(byte: u8) -> u8 {
     byte
 }
 
+// The bytes that the signs stand for, as many as there is room for.
+fn decode(signs: &[u8], out: &mut [u8]) -> usize
+    ensures { λ r. ⌜ r ≤ length (now (out .entry)) ⌝ }
+{
+    let mut i: usize = 0;
+    while i < signs.len() {
+        if out.len() <= i {
+            return i;
+        }
+        out[i] = stored(signs[i]);
+        i += 1;
+    }
+    i
+}
+
 fn shown_byte(byte: u8) -> u8 {
     if byte == b'\n' { b'/' } else { byte }
 }
 
-fn shown(bytes: [u8; 160]) -> [u8; 160] {
+fn shown(bytes: [u8; ROOM]) -> [u8; ROOM] {
     let mut line = bytes;
     let mut i: usize = 0;
-    while i < 160 {
+    while i < ROOM {
         line[i] = shown_byte(line[i]);
         i += 1;
     }
@@ -42,15 +62,7 @@ fn numbers(cause: u32, figure: u64, length: usize) {
     number(length as u64);
 }
 
-pub(crate) fn read(bytes: [u8; 512], size: usize, room: u64) {
-    if 512 < size {
-        return;
-    }
-    if 160 < room {
-        return;
-    }
-    let mut space = [b'.'; 160];
-    let outcome = sheet::answer(&bytes[..size], &mut space[..room as usize]);
+fn told(outcome: Outcome) {
     match outcome {
         Outcome::Report { length } => numbers(0, 0, length),
         Outcome::Refused {
@@ -60,6 +72,21 @@ pub(crate) fn read(bytes: [u8; 512], size: usize, room: u64) {
         } => numbers(cause, figure, length),
         Outcome::ShortSpace { length } => numbers(15, length as u64, length),
     }
+}
+
+// The length of the space, and the text in signs.
+pub(crate) fn sheet(n: &[u64], signs: &[u8]) {
+    if n.len() == 0 {
+        return;
+    }
+    let room = n[0];
+    if 160 < room {
+        return;
+    }
+    let mut bytes = io::large_buffer();
+    let size = decode(signs, &mut bytes);
+    let mut space = [b'.'; ROOM];
+    told(sheet::answer(&bytes[..size], &mut space[..room as usize]));
     text(b" : ");
     let line = shown(space);
     text(&line);

@@ -1,49 +1,96 @@
-// Runs vectors, a line each, which is written again with the answer. The first number says what is asked: 1 an
-// endplate, 2 a blind flange (calculations.rt), 3 a sheet (sheets.rt), 4 a design stress, 5 a quotient, 6 a root, 7 a
-// root over a factor (arithmetic.rt).
-use crate::arithmetic::worked_out;
-use crate::calculations::sized;
-use crate::line::Line;
-use crate::line::empty;
-use crate::line::with_byte;
-use crate::line::with_number;
+// Vectors, a line each, read piece by piece. A line is written again with its answer; its first number is its kind, and
+// a kind's function is given the numbers after that.
+use crate::arithmetic::design_stress;
+use crate::arithmetic::quotient;
+use crate::arithmetic::root;
+use crate::arithmetic::root_over;
+use crate::blind_flange::blind_flange;
+use crate::endplate::endplate;
+use crate::line::MOST_NUMBERS;
+use crate::line::read_numbers;
+use crate::line::text_of;
 use crate::print::text;
-use crate::sheets::read;
+use crate::sheets::sheet;
+use libc::STDIN_FILENO;
+ghost use Prim.Native.Nat.{_≤_};
+ghost use lib.ListN.{length};
 
-fn worked(l: Line) {
-    let numbers = l.numbers;
-    let kind = numbers[0];
-    if kind == 1 {
-        sized(numbers, 8, l.count, 8);
-    } else if kind == 2 {
-        sized(numbers, 15, l.count, 15);
-    } else if kind == 3 {
-        let text = l.text;
-        read(text, l.size, numbers[1]);
-    } else {
-        worked_out(kind, numbers[1], numbers[2]);
+const ENDPLATE: u64 = 1;
+
+const BLIND_FLANGE: u64 = 2;
+
+const SHEET: u64 = 3;
+
+const DESIGN_STRESS: u64 = 4;
+
+const QUOTIENT: u64 = 5;
+
+const ROOT: u64 = 6;
+
+const ROOT_OVER: u64 = 7;
+
+fn answer(kind: u64, numbers: &[u64], line: &[u8]) {
+    match kind {
+        ENDPLATE => endplate(numbers),
+        BLIND_FLANGE => blind_flange(numbers),
+        SHEET => sheet(numbers, text_of(line)),
+        DESIGN_STRESS => design_stress(numbers),
+        QUOTIENT => quotient(numbers),
+        ROOT => root(numbers),
+        ROOT_OVER => root_over(numbers),
+        _ => text(b" no such kind"),
+    }
+}
+
+fn work(line: &[u8]) {
+    let mut numbers = [0u64; MOST_NUMBERS];
+    let count = read_numbers(line, &mut numbers);
+    text(line);
+    if 0 < count {
+        answer(numbers[0], &numbers[1..count], line);
     }
     text(b"\n");
 }
 
-// The line so far, with one byte more; at its end it is worked and the next begins.
-fn next(l: Line, byte: u8) -> Line {
-    if byte == b'\n' {
-        worked(with_number(l));
-        return empty();
+// Works the lines of a piece that is filled so far. What follows the last LF begins at the index answered.
+fn work_lines(piece: &[u8], filled: usize) -> usize
+    requires { ⌜ filled ≤ length (now piece) ⌝ }
+    ensures { λ r. ⌜ r ≤ filled ⌝ }
+{
+    let mut start: usize = 0;
+    while start < filled {
+        let end = bytes::scan::find(piece, start, filled, b'\n');
+        if end == filled {
+            return start;
+        }
+        work(&piece[start..end]);
+        start = end + 1;
     }
-    with_byte(l, byte)
+    start
 }
 
-pub(crate) fn run(input: &[u8]) {
-    let mut l = empty();
-    let mut i: usize = 0;
-    while i < input.len() {
-        let byte = input[i];
-        if byte != b'\n' {
-            text(&input[i..i + 1]);
+// Reads on after what is kept at the front of the piece: how much of it is filled then.
+fn refill(piece: &mut [u8], kept: usize) -> usize
+    requires { ⌜ kept ≤ length (now piece) ⌝ }
+    ensures { λ r. ⌜ r ≤ length (now (piece .entry)) ⌝ }
+{
+    let read = io::read_full(STDIN_FILENO, &mut piece[kept..]);
+    kept + read
+}
+
+// A line that has not ended goes to the front of the next piece. The turns are as many as no input uses up.
+pub(crate) fn run() {
+    let mut piece = io::large_buffer();
+    let mut kept: usize = 0;
+    let mut turns = u64::MAX;
+    while turns > 0 {
+        let filled = refill(&mut piece, kept);
+        if filled == kept {
+            return;
         }
-        l = next(l, byte);
-        i += 1;
+        let start = work_lines(&piece, filled);
+        let last = piece;
+        kept = bytes::copy(&last[start..filled], &mut piece);
+        turns -= 1;
     }
 }

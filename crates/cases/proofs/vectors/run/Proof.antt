@@ -1,15 +1,16 @@
--- `vectors::run` keeps within its input, and ends. Assumes nothing.
-use Prim.Native.Nat.{_-_, _≤_}
+-- `vectors::run` keeps within its piece, and ends. Assumes nothing.
+use Prim.Native.Nat.{_≤_}
+use mathlib.Core.Path.{_≡_}
 use lib.ListN.{length}
 use borrow.Author.Needs.{needs}
 use Rattle.cases.proofs.vectors.run.Statement.{statement}
 use Rattle.cases.proofs.vectors.run.Tie as tie
 
 abbrev Inv-loop : tie.InvT-loop
-Inv-loop input l₀ i₀ l i = i ≤ length input
+Inv-loop piece₀ kept₀ turns₀ piece kept turns = (kept ≤ length piece) × (length piece ≡ 65536)
 
 abbrev μ-loop : tie.MeasureT-loop
-μ-loop input l₀ i₀ l i = length input - i
+μ-loop piece₀ kept₀ turns₀ piece kept turns = turns
 
 pub run-spec : {M : Type 1} → statement M
 run-spec =
@@ -20,11 +21,14 @@ run-spec =
     (λ c κs. search needs)
     (λ c. search needs)
     (λ c. search needs)
-    (λ c. search needs)
-    (λ c. search needs)
+    (λ c κs. search needs)
     (λ c. search needs)
     (λ c. search needs)
     (λ c κs. search needs)
+    (λ c. search needs)
+    (λ c. search needs)
+    (λ c. search needs)
+    (λ c. search needs)
     (λ c κs. search needs)
     (λ c. search needs)
     (λ c. search needs)

@@ -1,27 +1,26 @@
--- `sheets::read` keeps within its arrays. Assumes nothing.
+-- `sheets::sheet` keeps within its arrays. Assumes nothing.
 use mathlib.Core.Path.{sym}
 use native.Mathlib.Omega.{arith}
-use borrow.Author.Needs.{needs}
 use lib.Seq.{length-take-le}
-use Rattle.cases.proofs.sheets.read.Statement.{statement}
-use Rattle.cases.proofs.sheets.read.Tie as tie
+use borrow.Author.Needs.{needs}
+use Rattle.cases.proofs.sheets.sheet.Statement.{statement}
+use Rattle.cases.proofs.sheets.sheet.Tie as tie
 
-pub read-spec : {M : Type 1} → statement M
-read-spec =
+pub sheet-spec : {M : Type 1} → statement M
+sheet-spec =
     tie.close
     (tie.spec
     (λ c. search needs)
     (λ c. search needs)
     (λ c. search needs)
+    (λ c κs. search needs)
+    (λ c. search needs)
+    (λ c κs. search needs)
+    (λ c. search needs)
     (λ c. sym (length-take-le _ _ (omega arith)))
     (λ c. search needs)
     (λ c. sym (length-take-le _ _ (omega arith)))
     (λ c κs. search needs)
-    (λ c. search needs)
-    (λ c κs. search needs)
-    (λ c. search needs)
-    (λ c κs. search needs)
-    (λ c. search needs)
     (λ c κs. search needs)
     (λ c. search needs)
     (λ c κs. search needs)

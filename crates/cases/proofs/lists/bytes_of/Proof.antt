@@ -1,0 +1,33 @@
+-- `lists::bytes_of` keeps within its lists, and ends. Assumes nothing.
+use Prim.Native.Nat.{_-_, _≤_}
+use mathlib.Core.Path.{_≡_}
+use native.Mathlib.Omega.{arith}
+use lib.ListN.{length, length-set}
+use borrow.Author.Needs.{needs}
+use Rattle.cases.proofs.lists.bytes_of.Statement.{statement}
+use Rattle.cases.proofs.lists.bytes_of.Tie as tie
+
+abbrev Inv-loop : tie.InvT-loop
+Inv-loop words out₀ i₀ out i = (i ≤ length out) × (length out ≡ length out₀)
+
+abbrev μ-loop : tie.MeasureT-loop
+μ-loop words out₀ i₀ out i = length out₀ - i
+
+pub bytes-of-spec : {M : Type 1} → statement M
+bytes-of-spec =
+    tie.close
+    (tie.spec
+    Inv-loop
+    μ-loop
+    (λ c. search needs)
+    (λ c. search needs)
+    (λ c. search needs)
+    (λ c. search needs)
+    (λ c. search needs)
+    (λ c κs. search needs)
+    (λ c. search needs)
+    (λ c. search needs)
+    (λ c. search needs)
+    (λ c. (simp length-set (omega arith), simp length-set (omega arith)))
+    (λ c. search needs)
+    (λ c. search needs))

@@ -1,0 +1,34 @@
+-- `lists::words` keeps within its lists, and ends. Assumes nothing.
+use Prim.Native.Nat.{_-_, _≤_}
+use mathlib.Core.Path.{_≡_}
+use native.Mathlib.Omega.{arith}
+use lib.ListN.{length, length-set}
+use borrow.Author.Needs.{needs}
+use Rattle.cases.proofs.lists.words.Statement.{statement}
+use Rattle.cases.proofs.lists.words.Tie as tie
+
+abbrev Inv-loop : tie.InvT-loop
+Inv-loop numbers out₀ i₀ out i = (i ≤ length numbers) × (i ≤ length out) × (length out ≡ length out₀)
+
+abbrev μ-loop : tie.MeasureT-loop
+μ-loop numbers out₀ i₀ out i = length numbers - i
+
+pub words-spec : {M : Type 1} → statement M
+words-spec =
+    tie.close
+    (tie.spec
+    Inv-loop
+    μ-loop
+    (λ c. search needs)
+    (λ c. search needs)
+    (λ c. search needs)
+    (λ c. search needs)
+    (λ c. search needs)
+    (λ c κs. search needs)
+    (λ c. search needs)
+    (λ c. search needs)
+    (λ c. search needs)
+    (λ c. search needs)
+    (λ c. (omega arith, simp length-set (omega arith), simp length-set (omega arith)))
+    (λ c. search needs)
+    (λ c. search needs))
