@@ -59,53 +59,60 @@ static void draw_inputs(void)
 
 /* ---- One pass over the inputs; the sum of what was found ---- */
 
-/* The plates chosen. */
-static uint64_t archive_pass(enum part part, uint32_t plate_place)
+struct pass {
+    uint64_t (*run)(const struct pass *pass); /* null where there is none */
+    enum part part;                           /* of calls and sheets */
+    size_t (*sheet)(const uint8_t *text, size_t length, uint8_t *out, size_t out_length);
+    const uint64_t *numbers;                  /* of roots */
+    uint64_t (*root)(uint64_t n);
+};
+
+/* Plates chosen; a report's last figure. */
+static uint64_t archive_figures(const struct pass *pass)
 {
+    const uint32_t place = (uint32_t)(PLACE_REPORT + paper_parts[pass->part].figures - 1);
     uint64_t sum = 0;
-    for (size_t i = 0; i < INPUTS; i++)
-        sum += archive_calls[part].figure(inputs[part][i].n, inputs[part][i].plates, 4 * PLATES, plate_place);
+    for (size_t i = 0; i < INPUTS; i++) {
+        const struct input *input = &inputs[pass->part][i];
+        sum += archive_calls[pass->part].figure(input->n, input->plates, sizeof input->plates, place);
+    }
     return sum;
 }
 
-static uint64_t separate_pass(enum part part, uint32_t plate_place)
+static uint64_t separate_figures(const struct pass *pass)
 {
+    const size_t place = PLACE_REPORT + paper_parts[pass->part].figures - 1;
     uint64_t sum = 0, figures[PAPER_PLACES];
     uint32_t plates[PLATES];
     for (size_t i = 0; i < INPUTS; i++) {
-        size_t count = paper_plates(inputs[part][i].plates, 4 * PLATES, plates, PLATES);
-        paper_parts[part].work(inputs[part][i].n, plates, count, figures);
-        sum += figures[plate_place];
+        const struct input *input = &inputs[pass->part][i];
+        size_t count = paper_plates(input->plates, sizeof input->plates, plates, PLATES);
+        paper_parts[pass->part].work(input->n, plates, count, figures);
+        sum += figures[place];
     }
     return sum;
 }
 
 /* Length and last digit of the reports. */
-static uint64_t sheets_pass(enum part part, size_t (*answer)(const uint8_t *, size_t, uint8_t *, size_t))
+static uint64_t reports(const struct pass *pass)
 {
     uint8_t report[SCANTLING_LONGEST_REPORT];
     uint64_t sum = 0;
     for (size_t i = 0; i < INPUTS; i++) {
-        const struct text *sheet = &inputs[part][i].sheet;
-        size_t length = answer(sheet->bytes, sheet->length, report, sizeof report);
+        const struct text *sheet = &inputs[pass->part][i].sheet;
+        size_t length = pass->sheet(sheet->bytes, sheet->length, report, sizeof report);
         sum += length + report[length - 2];
     }
     return sum;
 }
 
-#define PASS(name, work)       \
-    static uint64_t name(void) \
-    {                          \
-        return work;           \
-    }
-PASS(archive_endplates, archive_pass(PART_END, SCANTLING_ENDPLATE_PLATE))
-PASS(separate_endplates, separate_pass(PART_END, END_PLATE_PLACE))
-PASS(archive_flanges, archive_pass(PART_BLIND, SCANTLING_BLIND_FLANGE_PLATE))
-PASS(separate_flanges, separate_pass(PART_BLIND, BLIND_PLATE_PLACE))
-PASS(archive_endplate_sheets, sheets_pass(PART_END, scantling_sheet))
-PASS(separate_endplate_sheets, sheets_pass(PART_END, paper_sheet))
-PASS(archive_flange_sheets, sheets_pass(PART_BLIND, scantling_sheet))
-PASS(separate_flange_sheets, sheets_pass(PART_BLIND, paper_sheet))
+static uint64_t roots(const struct pass *pass)
+{
+    uint64_t sum = 0;
+    for (size_t i = 0; i < INPUTS; i++)
+        sum += pass->root(pass->numbers[i]);
+    return sum;
+}
 
 static uint64_t search_root(uint64_t n)
 {
@@ -123,35 +130,28 @@ static uint64_t float_root(uint64_t n)
     return root;
 }
 
-static uint64_t roots_pass(const uint64_t *numbers, uint64_t (*root)(uint64_t))
-{
-    uint64_t sum = 0;
-    for (size_t i = 0; i < INPUTS; i++)
-        sum += root(numbers[i]);
-    return sum;
-}
-
-PASS(archive_long_roots, roots_pass(long_numbers, scantling_least_root))
-PASS(separate_long_roots, roots_pass(long_numbers, search_root))
-PASS(float_long_roots, roots_pass(long_numbers, float_root))
-PASS(archive_short_roots, roots_pass(short_numbers, scantling_least_root))
-PASS(separate_short_roots, roots_pass(short_numbers, search_root))
-PASS(float_short_roots, roots_pass(short_numbers, float_root))
-
 /* ---- Measuring ---- */
 
 struct work {
     const char *name;
-    uint64_t (*passes[3])(void); /* archive, separate program, floating point if any */
+    struct pass passes[3]; /* archive, separate program, floating point if any */
 };
 
+#define CALLS(of) {{.run = archive_figures, .part = of}, {.run = separate_figures, .part = of}}
+#define SHEETS(of) \
+    {{.run = reports, .part = of, .sheet = scantling_sheet}, {.run = reports, .part = of, .sheet = paper_sheet}}
+#define ROOTS(of)                                                 \
+    {{.run = roots, .numbers = of, .root = scantling_least_root}, \
+     {.run = roots, .numbers = of, .root = search_root},          \
+     {.run = roots, .numbers = of, .root = float_root}}
+
 static const struct work works[] = {
-    {"endplate calls", {archive_endplates, separate_endplates, NULL}},
-    {"blind flange calls", {archive_flanges, separate_flanges, NULL}},
-    {"endplate sheets", {archive_endplate_sheets, separate_endplate_sheets, NULL}},
-    {"blind flange sheets", {archive_flange_sheets, separate_flange_sheets, NULL}},
-    {"least roots, 0 to 64 bits", {archive_long_roots, separate_long_roots, float_long_roots}},
-    {"least roots, 16 to 34 bits", {archive_short_roots, separate_short_roots, float_short_roots}},
+    {"endplate calls", CALLS(PART_END)},
+    {"blind flange calls", CALLS(PART_BLIND)},
+    {"endplate sheets", SHEETS(PART_END)},
+    {"blind flange sheets", SHEETS(PART_BLIND)},
+    {"least roots, 0 to 64 bits", ROOTS(long_numbers)},
+    {"least roots, 16 to 34 bits", ROOTS(short_numbers)},
 };
 #define WORKS (sizeof works / sizeof works[0])
 
@@ -165,12 +165,12 @@ static double now(void)
     return (double)time.tv_sec + (double)time.tv_nsec * 1e-9;
 }
 
-static double measure(uint64_t (*pass)(void), uint64_t expected, const char *name)
+static double measure(const struct pass *pass, uint64_t expected, const char *name)
 {
     const double start = now();
     double passes = 0, elapsed = 0;
     while (elapsed < SECONDS) {
-        uint64_t sum = pass();
+        uint64_t sum = pass->run(pass);
         bench_sink += sum;
         if (sum != expected) {
             printf("difference: %s: sums %" PRIu64 " and %" PRIu64 "\n", name, expected, sum);
@@ -186,8 +186,9 @@ static void measure_round(int round)
 {
     for (size_t i = 0; i < WORKS * 3; i++) {
         const struct work *work = &works[i / 3];
-        if (work->passes[i % 3] != NULL)
-            rates[i / 3][i % 3][round] = measure(work->passes[i % 3], work->passes[0](), work->name);
+        if (work->passes[i % 3].run != NULL)
+            rates[i / 3][i % 3][round] =
+                measure(&work->passes[i % 3], work->passes[0].run(&work->passes[0]), work->name);
     }
 }
 
@@ -217,7 +218,7 @@ static void print_work(size_t i)
 {
     printf("%-28s %14.0f %14.0f %8.2f", works[i].name, median(rates[i][0]), median(rates[i][1]),
            median_ratio(rates[i][0], rates[i][1]));
-    if (works[i].passes[2] != NULL)
+    if (works[i].passes[2].run != NULL)
         printf(" %14.0f %8.2f", median(rates[i][2]), median_ratio(rates[i][0], rates[i][2]));
     printf("\n");
 }

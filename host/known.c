@@ -2,16 +2,18 @@
 
 #include <string.h>
 
-#define END(form, material, shell, temperature, pressure, place, figure) \
-    {PART_END,                                                              \
-     {[END_FORM] = form, [END_MATERIAL] = material, [END_SHELL] = shell,    \
-      [END_TEMPERATURE] = temperature, [END_PRESSURE] = pressure, [END_DIAMETER] = 5000}, \
+#define END(form, material, shell, temperature, pressure, place, figure)                       \
+    {PART_END,                                                                                 \
+     {[END_FORM] = form, [END_MATERIAL] = material, [END_SHELL] = shell,                       \
+      [END_TEMPERATURE] = temperature, [END_PRESSURE] = pressure, [END_DIAMETER] = 5000,       \
+      [END_ALLOWANCE] = 0},                                                                    \
      place, figure}
-#define BLIND(width, bolt, place, figure) \
-    {PART_BLIND,                                                                              \
-     {[BLIND_MATERIAL] = 1, [BLIND_TEMPERATURE] = 150, [BLIND_PRESSURE] = 1000, [BLIND_ALLOWANCE] = 100, \
-      [BLIND_OD] = 5000, [BLIND_WIDTH] = width, [BLIND_M] = 200, [BLIND_Y] = 110, [BLIND_CIRCLE] = 5600, \
-      [BLIND_BOLT] = bolt, [BLIND_ROOT] = 2250, [BLIND_COUNT] = 16, [BLIND_SA] = 100, [BLIND_SB] = 100}, \
+#define BLIND(width, bolt, place, figure)                                                      \
+    {PART_BLIND,                                                                               \
+     {[BLIND_MATERIAL] = 1, [BLIND_TEMPERATURE] = 150, [BLIND_PRESSURE] = 1000,                \
+      [BLIND_ALLOWANCE] = 100, [BLIND_OD] = 5000, [BLIND_WIDTH] = width, [BLIND_M] = 200,      \
+      [BLIND_Y] = 110, [BLIND_CIRCLE] = 5600, [BLIND_BOLT] = bolt, [BLIND_ROOT] = 2250,        \
+      [BLIND_COUNT] = 16, [BLIND_SA] = 100, [BLIND_SB] = 100},                                 \
      place, figure}
 #define PRINTED(place, figure) BLIND(100, 20, place, figure)
 

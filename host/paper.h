@@ -78,7 +78,7 @@ size_t paper_plates(const uint8_t *bytes, size_t length, uint32_t *plates, size_
 int paper_endplate_exact(const uint32_t n[], const uint64_t figures[PAPER_PLACES]);
 int paper_blind_flange_exact(const uint32_t n[], const uint64_t figures[PAPER_PLACES]);
 
-/* What the parts differ in. Keys stand in line order: of a sheet from line 1 on, of an accepted report from place 2 on. */
+/* What the parts differ in. Keys are in line order: of a sheet from line 1, of an accepted report from place 2 on. */
 struct paper_part {
     const char *word;        /* on the line `part` */
     size_t numbers, figures; /* of a sheet, of an accepted report */

@@ -30,7 +30,7 @@ static void give_up(const char *why, const char *line)
 
 /* Numbers with single spaces between, the kind first. */
 struct numbers {
-    uint64_t values[VECTOR_LINE / 2];
+    uint64_t values[VECTOR_NUMBERS];
     size_t count;
 };
 
@@ -40,8 +40,8 @@ static void read_numbers(const char *line, struct numbers *numbers)
     numbers->count = 0;
     for (;;) {
         char *end;
-        if (*at < '0' || *at > '9')
-            give_up("not numbers", line);
+        if (numbers->count == VECTOR_NUMBERS || *at < '0' || *at > '9')
+            give_up("not numbers, or too many", line);
         numbers->values[numbers->count++] = strtoull(at, &end, 10);
         if (*end == '\0')
             return;
@@ -70,7 +70,7 @@ static void work_question(const char *line, const struct kind *kind)
 {
     const struct paper_part *part = &paper_parts[kind->part];
     static struct numbers numbers;
-    static uint32_t values[VECTOR_LINE / 2];
+    static uint32_t values[VECTOR_NUMBERS];
     uint64_t figures[PAPER_PLACES];
     read_numbers(line, &numbers);
     const size_t count = numbers.count - 1, report = PLACE_REPORT + part->figures;

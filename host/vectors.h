@@ -5,12 +5,16 @@
 #include "sheets.h"
 
 enum vector_kind {
-    KIND_ENDPLATE = 1, KIND_BLIND_FLANGE, KIND_SHEET, KIND_DESIGN_STRESS, KIND_QUOTIENT, KIND_ROOT, KIND_ROOT_OVER, KINDS
+    KIND_ENDPLATE = 1, KIND_BLIND_FLANGE = 2, KIND_SHEET = 3, KIND_DESIGN_STRESS = 4, KIND_QUOTIENT = 5, KIND_ROOT = 6,
+    KIND_ROOT_OVER = 7, KINDS
 };
 
-#define VECTOR_LINE 65536 /* bytes of a line with its LF: what cases has room for */
-#define VECTOR_TEXT 512   /* bytes of a sheet */
-#define VECTOR_ROOM 160   /* bytes of the largest space */
+/* What cases has room for. */
+#define VECTOR_LINE 65536   /* bytes of a line with its LF */
+#define VECTOR_NUMBERS 1023 /* on a line, its kind among them */
+#define VECTOR_ROOM 160     /* bytes of the largest space */
+
+#define VECTOR_TEXT 512 /* bytes of a sheet that is made */
 
 /* Bytes of a sheet that a line cannot hold, LF, CR, NUL and 255, and the signs that stand for them. */
 #define VECTOR_SIGNS 4

@@ -52,7 +52,8 @@ static void put_printed(void)
 {
     const uint64_t reaction_diameter = 4900, operating_load = 219251, flange_load = 289626; /* G, Wm1, W */
     const uint64_t ten_10 = UINT64_C(10000000000), d_squared = 25000000;
-    put_pair(KIND_QUOTIENT, 78500 * reaction_diameter * reaction_diameter * 1000 + 628 * 500 * reaction_diameter * 200000, ten_10);
+    put_pair(KIND_QUOTIENT,
+             78500 * reaction_diameter * reaction_diameter * 1000 + 628 * 500 * reaction_diameter * 200000, ten_10);
     put_pair(KIND_QUOTIENT, 314 * 500 * reaction_diameter * 110, 1000000);
     put_pair(KIND_QUOTIENT, 10 * operating_load * 100 + 36000 * 10000, 2000);
     put_about(KIND_QUOTIENT, operating_load * ten_10, ten_10);
@@ -64,7 +65,8 @@ static void put_printed(void)
     put_pair(KIND_ROOT_OVER, 31752 * 126, 1000);
     put_pair(KIND_ROOT_OVER, 31752 * 127, 1000);
     put_about(KIND_ROOT_OVER, 31752 * 500, 1000);
-    put_pair(KIND_ROOT_OVER, 3 * reaction_diameter * reaction_diameter * reaction_diameter * 1000 + 954500 * operating_load * 700,
+    put_pair(KIND_ROOT_OVER,
+             3 * reaction_diameter * reaction_diameter * reaction_diameter * 1000 + 954500 * operating_load * 700,
              100 * 108 * reaction_diameter);
     put_pair(KIND_ROOT_OVER, 954500 * flange_load * 700, 100 * 108 * reaction_diameter);
     put_pair(KIND_ROOT_OVER, 954500 * operating_load * 700, 100 * 108 * reaction_diameter);

@@ -1,5 +1,5 @@
-// Runs the calculation of an endplate: the numbers of the sheet in the order of its lines, and the plates. Written are
-// the answer of the call, and then the figures by place, as C gets them.
+// Runs the calculation of an endplate: the numbers of the sheet in the order of its lines, and the plates. Written
+// are the answer of the call, and then the figures by place, as C gets them.
 use crate::answers::answered;
 use crate::line::MOST_NUMBERS;
 use crate::lists::bytes_of;

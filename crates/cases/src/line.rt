@@ -3,8 +3,8 @@ use std::num::wrapping_add_u64;
 ghost use Prim.Native.Nat.{_≤_};
 ghost use lib.ListN.{length};
 
-// No line of a piece has more.
-pub(crate) const MOST_NUMBERS: usize = 32768;
+// A line has fewer.
+pub(crate) const MOST_NUMBERS: usize = 1024;
 
 // One number more, where there is room.
 fn push(numbers: &mut [u64], count: usize, value: u64) -> usize
@@ -39,7 +39,7 @@ fn decimal(digits: &[u8]) -> u64 {
     value
 }
 
-// The numbers of the line, and how many. Of a text after them there is no more to expect than some number for each word.
+// The numbers of the line, and how many there is room for. A text is read as some numbers more.
 pub(crate) fn read_numbers(line: &[u8], numbers: &mut [u64]) -> usize
     ensures { λ r. ⌜ r ≤ length (now (numbers .entry)) ⌝ }
 {

@@ -46,7 +46,9 @@ fn work(line: &[u8]) {
     let mut numbers = [0u64; MOST_NUMBERS];
     let count = read_numbers(line, &mut numbers);
     text(line);
-    if 0 < count {
+    if count == MOST_NUMBERS {
+        text(b" too many numbers");
+    } else if 0 < count {
         answer(numbers[0], &numbers[1..count], line);
     }
     text(b"\n");
