@@ -46,6 +46,6 @@ reportText answer = numberLines (keysOf answer) (reportNumbers answer)
 abbrev pub lineRoom : List ℕ → ℕ
 lineRoom key = length key + 22
 
--- no report is longer; a blind flange's eleven lines may take 279
+-- no report is longer: its lines together may take no more
 abbrev pub longest : ℕ
 longest = 319
