@@ -10,6 +10,9 @@ use crate::print::text;
 use capi::scantling_blind_flange;
 use lines::blind_flange;
 use rules::BlindFlangeSheet;
+ghost use Prim.Native.Nat.{_≤_};
+ghost use lib.ListN.{length};
+ghost use Rattle.lines.specs.Fields.{blindFlangeFields};
 
 // Two past the report's last.
 const PLACES: u32 = 15;
@@ -46,11 +49,10 @@ fn figures(s: BlindFlangeSheet, plates: &[u32]) {
     by_place(s, &bytes[..size]);
 }
 
-pub(crate) fn blind_flange(n: &[u64]) {
-    if n.len() < blind_flange::FIELDS {
-        return;
-    }
-    let sheet = BlindFlangeSheet {
+fn sheet_of(n: &[u64]) -> BlindFlangeSheet
+    requires { ⌜ length blindFlangeFields ≤ length (now n) ⌝ }
+{
+    BlindFlangeSheet {
         material: low(n[blind_flange::MATERIAL]),
         temperature: low(n[blind_flange::TEMPERATURE]),
         pressure: low(n[blind_flange::PRESSURE]),
@@ -65,7 +67,14 @@ pub(crate) fn blind_flange(n: &[u64]) {
         count: low(n[blind_flange::COUNT]),
         sa: low(n[blind_flange::SA]),
         sb: low(n[blind_flange::SB]),
-    };
+    }
+}
+
+pub(crate) fn blind_flange(n: &[u64]) {
+    if n.len() < blind_flange::FIELDS {
+        return;
+    }
+    let sheet = sheet_of(n);
     let mut plates = [0u32; MOST_NUMBERS];
     let count = words(&n[blind_flange::FIELDS..], &mut plates);
     answered(rules::blind_flange(sheet, &plates[..count]));

@@ -10,6 +10,9 @@ use crate::print::text;
 use capi::scantling_endplate;
 use lines::endplate;
 use rules::EndplateSheet;
+ghost use Prim.Native.Nat.{_≤_};
+ghost use lib.ListN.{length};
+ghost use Rattle.lines.specs.Fields.{endplateFields};
 
 // Two past the report's last.
 const PLACES: u32 = 8;
@@ -39,11 +42,10 @@ fn figures(s: EndplateSheet, plates: &[u32]) {
     by_place(s, &bytes[..size]);
 }
 
-pub(crate) fn endplate(n: &[u64]) {
-    if n.len() < endplate::FIELDS {
-        return;
-    }
-    let sheet = EndplateSheet {
+fn sheet_of(n: &[u64]) -> EndplateSheet
+    requires { ⌜ length endplateFields ≤ length (now n) ⌝ }
+{
+    EndplateSheet {
         form: low(n[endplate::FORM]),
         material: low(n[endplate::MATERIAL]),
         shell: low(n[endplate::SHELL]),
@@ -51,7 +53,14 @@ pub(crate) fn endplate(n: &[u64]) {
         pressure: low(n[endplate::PRESSURE]),
         diameter: low(n[endplate::DIAMETER]),
         allowance: low(n[endplate::ALLOWANCE]),
-    };
+    }
+}
+
+pub(crate) fn endplate(n: &[u64]) {
+    if n.len() < endplate::FIELDS {
+        return;
+    }
+    let sheet = sheet_of(n);
     let mut plates = [0u32; MOST_NUMBERS];
     let count = words(&n[endplate::FIELDS..], &mut plates);
     answered(rules::endplate(sheet, &plates[..count]));

@@ -1,11 +1,10 @@
 // The plates of a line, as the calls take them: numbers, and for C four bytes each, lowest first.
 use crate::print::low;
-ghost use Prim.Native.Nat.{_≤_};
-ghost use lib.ListN.{length};
+ghost use Rattle.io.specs.Counts.{Counts};
 
 // As many of the numbers as there is room for.
 pub(crate) fn words(numbers: &[u64], out: &mut [u32]) -> usize
-    ensures { λ r. ⌜ r ≤ length (now (out .entry)) ⌝ }
+    ensures { λ r. ⌜ Counts r (now (out .exit)) ⌝ }
 {
     let mut i: usize = 0;
     while i < numbers.len() {
@@ -29,7 +28,7 @@ fn byte_of(word: u32, k: usize) -> u8 {
 
 // As many of the bytes as there is room for.
 pub(crate) fn bytes_of(words: &[u32], out: &mut [u8]) -> usize
-    ensures { λ r. ⌜ r ≤ length (now (out .entry)) ⌝ }
+    ensures { λ r. ⌜ Counts r (now (out .exit)) ⌝ }
 {
     let mut i: usize = 0;
     while i < out.len() {

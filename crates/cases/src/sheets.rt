@@ -4,8 +4,7 @@
 use crate::print::number;
 use crate::print::text;
 use sheet::Outcome;
-ghost use Prim.Native.Nat.{_≤_};
-ghost use lib.ListN.{length};
+ghost use Rattle.io.specs.Counts.{Counts};
 
 // The array's length.
 const ROOM: usize = 160;
@@ -28,7 +27,7 @@ fn stored(byte: u8) -> u8 {
 
 // The bytes that the signs stand for, as many as there is room for.
 fn decode(signs: &[u8], out: &mut [u8]) -> usize
-    ensures { λ r. ⌜ r ≤ length (now (out .entry)) ⌝ }
+    ensures { λ r. ⌜ Counts r (now (out .exit)) ⌝ }
 {
     let mut i: usize = 0;
     while i < signs.len() {

@@ -1,8 +1,9 @@
 -- `lists::words` keeps within its lists, and ends. Assumes nothing.
 use Prim.Native.Nat.{_-_, _≤_}
-use mathlib.Core.Path.{_≡_}
+use mathlib.Core.Path.{_≡_, sym}
 use native.Mathlib.Omega.{arith}
 use lib.ListN.{length, length-set}
+use lib.Seq.{length-take-le}
 use borrow.Author.Needs.{needs}
 use Rattle.cases.proofs.lists.words.Statement.{statement}
 use Rattle.cases.proofs.lists.words.Tie as tie
@@ -21,7 +22,7 @@ words-spec =
     μ-loop
     (λ c. search needs)
     (λ c. search needs)
-    (λ c. search needs)
+    (λ c. (omega arith, sym (length-take-le _ _ (omega arith))))
     (λ c. search needs)
     (λ c. search needs)
     (λ c κs. search needs)
@@ -31,4 +32,4 @@ words-spec =
     (λ c. search needs)
     (λ c. (omega arith, simp length-set (omega arith), simp length-set (omega arith)))
     (λ c. search needs)
-    (λ c. search needs))
+    (λ c. (omega arith, sym (length-take-le _ _ (omega arith)))))
