@@ -67,10 +67,10 @@ struct pass {
     uint64_t (*root)(uint64_t n);
 };
 
-/* Plates chosen; a report's last figure. */
+/* Plates chosen. */
 static uint64_t archive_figures(const struct pass *pass)
 {
-    const uint32_t place = (uint32_t)(PLACE_REPORT + paper_parts[pass->part].figures - 1);
+    const uint32_t place = paper_parts[pass->part].last_place;
     uint64_t sum = 0;
     for (size_t i = 0; i < INPUTS; i++) {
         const struct input *input = &inputs[pass->part][i];
@@ -81,7 +81,7 @@ static uint64_t archive_figures(const struct pass *pass)
 
 static uint64_t separate_figures(const struct pass *pass)
 {
-    const size_t place = PLACE_REPORT + paper_parts[pass->part].figures - 1;
+    const uint32_t place = paper_parts[pass->part].last_place;
     uint64_t sum = 0, figures[PAPER_PLACES];
     uint32_t plates[PLATES];
     for (size_t i = 0; i < INPUTS; i++) {

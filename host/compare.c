@@ -24,14 +24,10 @@ static void differ(size_t number, const char *who, uint64_t figure)
     exit(1);
 }
 
-/* The document's figure in a report: of the cause and of an accepted report's line. */
+/* The document's figure in a report. */
 static uint64_t known_figure_in(const struct known *known, const uint8_t *report, size_t length)
 {
-    if (known->place == PLACE_CAUSE)
-        return report_figure(report, length, "refused");
-    if (known->place == PLACE_FIGURE)
-        return report_figure(report, length, "place");
-    return report_figure(report, length, paper_parts[known->part].report_keys[known->place - PLACE_REPORT]);
+    return report_figure(report, length, paper_parts[known->part].report_keys[known->place]);
 }
 
 static void compare_known_sheet(size_t number, const struct text *text)

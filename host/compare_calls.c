@@ -22,7 +22,7 @@ static void print_question(const struct asking *asking)
     const struct paper_part *part = &paper_parts[question->part];
     printf("%s:", archive_calls[question->part].name);
     for (size_t i = 0; i < part->numbers; i++)
-        printf(" %s=%" PRIu32, part->keys[i + 1], question->numbers[i]);
+        printf(" %s=%" PRIu32, part->keys[i], question->numbers[i]);
     printf(" plates=");
     for (size_t i = 0; i < question->plate_count; i++)
         printf(i == 0 ? "%" PRIu32 : ",%" PRIu32, question->plates[i]);
@@ -58,8 +58,8 @@ static void judge_question(struct compare *compare, const struct asking *asking)
     printf("not exact: ");
     print_question(asking);
     printf(":");
-    for (size_t i = 0; i < part->figures; i++)
-        printf(" %s=%" PRIu64, part->report_keys[i], asking->figures[PLACE_REPORT + i]);
+    for (uint32_t place = PLACE_REPORT; place <= part->last_place; place++)
+        printf(" %s=%" PRIu64, part->report_keys[place], asking->figures[place]);
     printf("\n");
     exit(1);
 }

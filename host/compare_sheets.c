@@ -81,8 +81,8 @@ static void judge_report(struct compare *compare, const struct sheet *sheet, con
     if (sheet->answer.figures[PLACE_CAUSE] != CAUSE_NONE)
         return;
     compare->accuracy++;
-    for (size_t i = 0; i < part->figures; i++)
-        figures[PLACE_REPORT + i] = report_figure(report, sheet->report_length, part->report_keys[i]);
+    for (uint32_t place = PLACE_REPORT; place <= part->last_place; place++)
+        figures[place] = report_figure(report, sheet->report_length, part->report_keys[place]);
     if (part->exact(sheet->answer.numbers, figures))
         return;
     printf("not exact:\n");

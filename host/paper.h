@@ -40,9 +40,6 @@ enum {
 };
 enum { PAPER_PLACES = BLIND_PLATE_PLACE + 9 }; /* of the longer report, and some past it */
 
-enum { END_FIGURES = END_PLATE_PLACE + 1 - PLACE_REPORT, BLIND_FIGURES = BLIND_PLATE_PLACE + 1 - PLACE_REPORT };
-enum { END_LINES = END_NUMBERS + 2, BLIND_LINES = BLIND_NUMBERS + 2 }; /* of a sheet: part, the numbers, plates */
-
 #define PAPER_SHEET_PLATES 32
 #define PAPER_REPORT_ROOM 512
 
@@ -78,16 +75,18 @@ size_t paper_plates(const uint8_t *bytes, size_t length, uint32_t *plates, size_
 int paper_endplate_exact(const uint32_t n[], const uint64_t figures[PAPER_PLACES]);
 int paper_blind_flange_exact(const uint32_t n[], const uint64_t figures[PAPER_PLACES]);
 
-/* What the parts differ in. Keys are in line order: of a sheet from line 1, of an accepted report from place 2 on. */
+/* What the parts differ in. */
 struct paper_part {
-    const char *word;        /* on the line `part` */
-    size_t numbers, figures; /* of a sheet, of an accepted report */
-    const char *const *keys, *const *report_keys;
-    uint32_t thickness_place, edge_thickness_place; /* of what is judged by exact; the latter 0 if there is none */
+    const char *word;               /* on the line `part` */
+    size_t numbers;                 /* between it and the line `plates` */
+    const char *const *keys;        /* of the numbers */
+    const char *const *report_keys; /* by place */
+    uint32_t last_place;            /* of the report's figures, the plate's */
+    uint32_t thickness_place, edge_thickness_place; /* of what exact judges; the latter 0 if there is none */
     void (*work)(const uint32_t n[], const uint32_t *plates, size_t count, uint64_t figures[PAPER_PLACES]);
     int (*exact)(const uint32_t n[], const uint64_t figures[PAPER_PLACES]);
 };
-extern const struct paper_part paper_parts[PARTS]; /* nothing for PART_NONE */
+extern const struct paper_part paper_parts[PARTS]; /* a text of PART_NONE is refused: it has the keys for that alone */
 
 /* What a sheet holds, and its figures by place. Under cause 1 only the figures are to be read. */
 struct paper_answer {

@@ -3,20 +3,35 @@
 
 #include <string.h>
 
-static const char *const end_keys[END_LINES] = {
-    "part", "form", "material", "shell", "temp", "pressure", "dia", "allow", "plates"};
-static const char *const blind_keys[BLIND_LINES] = {
-    "part", "material", "temp", "pressure", "allow", "od", "width", "m", "y", "circle", "bolt", "root", "count", "sa",
-    "sb", "plates"};
-static const char *const end_report_keys[END_FIGURES] = {"stress", "need", "total", "plate"};
-static const char *const blind_report_keys[BLIND_FIGURES] = {
-    "stress", "cold", "g", "b", "wm1", "wm2", "w", "need", "edge", "total", "plate"};
+static const char *const end_keys[END_NUMBERS] = {
+    [END_FORM] = "form", [END_MATERIAL] = "material", [END_SHELL] = "shell", [END_TEMPERATURE] = "temp",
+    [END_PRESSURE] = "pressure", [END_DIAMETER] = "dia", [END_ALLOWANCE] = "allow"};
+static const char *const blind_keys[BLIND_NUMBERS] = {
+    [BLIND_MATERIAL] = "material", [BLIND_TEMPERATURE] = "temp", [BLIND_PRESSURE] = "pressure",
+    [BLIND_ALLOWANCE] = "allow", [BLIND_OD] = "od", [BLIND_WIDTH] = "width", [BLIND_M] = "m", [BLIND_Y] = "y",
+    [BLIND_CIRCLE] = "circle", [BLIND_BOLT] = "bolt", [BLIND_ROOT] = "root", [BLIND_COUNT] = "count",
+    [BLIND_SA] = "sa", [BLIND_SB] = "sb"};
+
+#define REFUSAL_KEYS [PLACE_CAUSE] = "refused", [PLACE_FIGURE] = "place"
+static const char *const refusal_keys[] = {REFUSAL_KEYS};
+static const char *const end_report_keys[] = {
+    REFUSAL_KEYS, [END_DESIGN_STRESS_PLACE] = "stress", [END_THICKNESS_PLACE] = "need", [END_TOTAL_PLACE] = "total",
+    [END_PLATE_PLACE] = "plate"};
+static const char *const blind_report_keys[] = {
+    REFUSAL_KEYS, [BLIND_DESIGN_STRESS_PLACE] = "stress", [BLIND_AMBIENT_STRESS_PLACE] = "cold",
+    [BLIND_REACTION_DIAMETER_PLACE] = "g", [BLIND_EFFECTIVE_WIDTH_PLACE] = "b", [BLIND_OPERATING_LOAD_PLACE] = "wm1",
+    [BLIND_SEATING_LOAD_PLACE] = "wm2", [BLIND_FLANGE_LOAD_PLACE] = "w", [BLIND_THICKNESS_PLACE] = "need",
+    [BLIND_EDGE_THICKNESS_PLACE] = "edge", [BLIND_TOTAL_PLACE] = "total", [BLIND_PLATE_PLACE] = "plate"};
 
 const struct paper_part paper_parts[PARTS] = {
-    [PART_END] = {"end", END_NUMBERS, END_FIGURES, end_keys, end_report_keys, END_THICKNESS_PLACE, 0, paper_endplate,
-                  paper_endplate_exact},
-    [PART_BLIND] = {"blind", BLIND_NUMBERS, BLIND_FIGURES, blind_keys, blind_report_keys, BLIND_THICKNESS_PLACE,
-                    BLIND_EDGE_THICKNESS_PLACE, paper_blind_flange, paper_blind_flange_exact},
+    [PART_NONE] = {.report_keys = refusal_keys},
+    [PART_END] = {.word = "end", .numbers = END_NUMBERS, .keys = end_keys, .report_keys = end_report_keys,
+                  .last_place = END_PLATE_PLACE, .thickness_place = END_THICKNESS_PLACE, .edge_thickness_place = 0,
+                  .work = paper_endplate, .exact = paper_endplate_exact},
+    [PART_BLIND] = {.word = "blind", .numbers = BLIND_NUMBERS, .keys = blind_keys, .report_keys = blind_report_keys,
+                    .last_place = BLIND_PLATE_PLACE, .thickness_place = BLIND_THICKNESS_PLACE,
+                    .edge_thickness_place = BLIND_EDGE_THICKNESS_PLACE, .work = paper_blind_flange,
+                    .exact = paper_blind_flange_exact},
 };
 
 struct span {
@@ -124,11 +139,12 @@ static uint32_t read_sheet(struct span text, struct paper_answer *answer)
         return line;
     const struct paper_part *part = &paper_parts[answer->part];
     for (size_t i = 0; i < part->numbers; i++) {
-        const char *key = part->keys[line++];
-        if (!take_line(&text, key, &value) || !read_value(key, value, &answer->numbers[i]))
+        line++;
+        if (!take_line(&text, part->keys[i], &value) || !read_value(part->keys[i], value, &answer->numbers[i]))
             return line;
     }
-    if (!take_line(&text, part->keys[line++], &value) || !read_plates(value, answer))
+    line++;
+    if (!take_line(&text, "plates", &value) || !read_plates(value, answer))
         return line;
     return text.length == 0 ? 0 : line + 1;
 }
@@ -155,10 +171,12 @@ static size_t put_line(uint8_t *report, size_t length, const char *key, uint64_t
 
 static size_t put_report(const struct paper_answer *answer, uint8_t *report)
 {
+    const int refused = answer->figures[PLACE_CAUSE] != CAUSE_NONE;
     const struct paper_part *part = &paper_parts[answer->part];
+    const uint32_t first = refused ? PLACE_CAUSE : PLACE_REPORT, last = refused ? PLACE_FIGURE : part->last_place;
     size_t length = 0;
-    for (size_t i = 0; i < part->figures; i++)
-        length = put_line(report, length, part->report_keys[i], answer->figures[PLACE_REPORT + i]);
+    for (uint32_t place = first; place <= last; place++)
+        length = put_line(report, length, part->report_keys[place], answer->figures[place]);
     return length;
 }
 
@@ -174,10 +192,7 @@ size_t paper_report(const uint8_t *text, size_t length, uint8_t *report, struct 
     } else {
         paper_parts[answer->part].work(answer->numbers, answer->plates, answer->plate_count, answer->figures);
     }
-    if (answer->figures[PLACE_CAUSE] == CAUSE_NONE)
-        return put_report(answer, report);
-    size_t refused = put_line(report, 0, "refused", answer->figures[PLACE_CAUSE]);
-    return put_line(report, refused, "place", answer->figures[PLACE_FIGURE]);
+    return put_report(answer, report);
 }
 
 size_t paper_sheet(const uint8_t *text, size_t length, uint8_t *out, size_t out_length)

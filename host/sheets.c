@@ -53,6 +53,6 @@ void write_sheet(const struct question *question, struct text *text)
     append(text, part->word);
     append(text, "\n");
     for (size_t i = 0; i < part->numbers; i++)
-        append_line(text, part->keys[i + 1], question->numbers[i]);
+        append_line(text, part->keys[i], question->numbers[i]);
     append_plates(text, question);
 }

@@ -51,9 +51,10 @@ static void read_numbers(const char *line, struct numbers *numbers)
     }
 }
 
-static void print_figures(const uint64_t *figures, size_t first, size_t count)
+/* Those at the places up to last. */
+static void print_figures(const uint64_t *figures, uint32_t last)
 {
-    for (size_t place = first; place < first + count; place++)
+    for (uint32_t place = 0; place <= last; place++)
         printf(" %" PRIu64, figures[place]);
 }
 
@@ -73,7 +74,7 @@ static void work_question(const char *line, const struct kind *kind)
     static uint32_t values[VECTOR_NUMBERS];
     uint64_t figures[PAPER_PLACES];
     read_numbers(line, &numbers);
-    const size_t count = numbers.count - 1, report = PLACE_REPORT + part->figures;
+    const size_t count = numbers.count - 1;
     if (count < part->numbers)
         give_up("too few numbers", line);
     for (size_t i = 0; i < count; i++)
@@ -81,9 +82,9 @@ static void work_question(const char *line, const struct kind *kind)
             numbers.values[i + 1] <= UINT32_MAX ? (uint32_t)numbers.values[i + 1] : (give_up("too large", line), 0);
     part->work(values, values + part->numbers, count - part->numbers, figures);
     printf("%s =", line);
-    print_figures(figures, 0, figures[PLACE_CAUSE] == CAUSE_NONE ? report : PLACE_REPORT);
+    print_figures(figures, figures[PLACE_CAUSE] == CAUSE_NONE ? part->last_place : PLACE_FIGURE);
     printf(" :");
-    print_figures(figures, 0, report + 2);
+    print_figures(figures, part->last_place + 2);
     printf("\n");
 }
 

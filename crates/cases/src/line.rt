@@ -3,7 +3,7 @@ use std::num::wrapping_add_u64;
 ghost use Prim.Native.Nat.{_≤_};
 ghost use lib.ListN.{length};
 
-// A line has fewer.
+// Room for a line's numbers. A line of so many or more has no answer.
 pub(crate) const MOST_NUMBERS: usize = 1024;
 
 // One number more, where there is room.
@@ -39,7 +39,7 @@ fn decimal(digits: &[u8]) -> u64 {
     value
 }
 
-// The numbers of the line, and how many there is room for. A text is read as some numbers more.
+// The numbers of the line, as many as there is room for, and how many. A text is read as some numbers more.
 pub(crate) fn read_numbers(line: &[u8], numbers: &mut [u64]) -> usize
     ensures { λ r. ⌜ r ≤ length (now (numbers .entry)) ⌝ }
 {

@@ -79,7 +79,7 @@ pub(crate) fn sheet(n: &[u64], signs: &[u8]) {
         return;
     }
     let room = n[0];
-    if 160 < room {
+    if (ROOM as u64) < room {
         return;
     }
     let mut bytes = io::large_buffer();

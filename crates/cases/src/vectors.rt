@@ -1,5 +1,5 @@
 // Vectors, a line each, read piece by piece. A line is written again with its answer; its first number is its kind, and
-// a kind's function is given the numbers after that.
+// a kind's function is given the numbers after that. Numbers that do not suit the kind have no answer.
 use crate::arithmetic::design_stress;
 use crate::arithmetic::quotient;
 use crate::arithmetic::root;

@@ -1,4 +1,4 @@
--- The last arm of a `match` on an index is taken past all others. Assumes nothing.
+-- The last arm of a `match` on an index is taken past all the numbers of the others. Assumes nothing.
 use Prim.Native.Nat.{ℕ, zero, suc, _≤_, zero-le}
 use mathlib.Core.Logic.{⊎-elim}
 use mathlib.Core.Path.{_≡_, sym}

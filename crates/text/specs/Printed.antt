@@ -16,12 +16,12 @@ abbrev pub wholeNumber : List ℕ → Number
 wholeNumber v = cond (eqb (length v) 0) Malformed (digitsAfter 0 v)
 
 -- the number of the first line of this key; malformed where there is none. A line begins after each LF, and at the front
--- of t where `begins` says so
+-- of t where `starts` says so
 unfoldable pub printedFrom : Bool → List ℕ → List ℕ → Number
-printedFrom begins key [] = Malformed
-printedFrom begins key (b ∷ t) =
+printedFrom starts key [] = Malformed
+printedFrom starts key (b ∷ t) =
     let later = printedFrom (eqb b lineFeed) key t in
-    cond (begins && isLine key (b ∷ t)) (wholeNumber (valueOf key (b ∷ t))) later
+    cond (starts && isLine key (b ∷ t)) (wholeNumber (valueOf key (b ∷ t))) later
 
 abbrev pub printed : String → List ℕ → Number
 printed key report = printedFrom true (ascii key) report

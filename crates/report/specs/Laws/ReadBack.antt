@@ -56,10 +56,12 @@ lines-shown key (own ∷ keys) (n ∷ ns) p q =
     printed-line (ascii key) (ascii own) (numberLines keys ns) n (plain-lacks (ascii key) p .0) (l .0) (l .1)
     ∙ ap (cond (same (ascii key) (ascii own)) (Value n)) (lines-shown key keys ns p (both .1))
 
--- the keys of every report are plain
+keys-plain : (answer : Answer) → allPlain (keysOf answer) ≡ true
+keys-plain (Endplate f plate) = refl
+keys-plain (BlindFlange f plate) = refl
+keys-plain (Refused cause figure) = refl
+
 pub report-shows : (key : String) (answer : Answer) → plain (ascii key) ≡ true
     → printed key (reportText answer) ≡ numberBeside key (keysOf answer) (reportNumbers answer)
-unfolding reportText indexOf indexAfter
-report-shows key (Endplate f plate) p = lines-shown key (keysOf (Endplate f plate)) (reportNumbers (Endplate f plate)) p refl
-report-shows key (BlindFlange f plate) p = lines-shown key (keysOf (BlindFlange f plate)) (reportNumbers (BlindFlange f plate)) p refl
-report-shows key (Refused cause figure) p = lines-shown key (keysOf (Refused cause figure)) (reportNumbers (Refused cause figure)) p refl
+unfolding reportText
+report-shows key answer p = lines-shown key (keysOf answer) (reportNumbers answer) p (keys-plain answer)

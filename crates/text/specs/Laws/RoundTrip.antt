@@ -123,11 +123,11 @@ here (a ∷ key) [] e = absurd (false≢true e)
 here key (b ∷ t) e = rw e
 
 -- a line that is not of the key is passed over, up to its LF
-passed : (key rest s : List ℕ) (begins : Bool) → Lacks lineFeed s → (begins && isLine key (s ++ lineFeed ∷ rest)) ≡ false
-    → printedFrom begins key (s ++ lineFeed ∷ rest) ≡ printedFrom true key rest
+passed : (key rest s : List ℕ) (starts : Bool) → Lacks lineFeed s → (starts && isLine key (s ++ lineFeed ∷ rest)) ≡ false
+    → printedFrom starts key (s ++ lineFeed ∷ rest) ≡ printedFrom true key rest
 unfolding printedFrom
-passed key rest [] begins k e = rw e
-passed key rest (b ∷ s) begins k e =
+passed key rest [] starts k e = rw e
+passed key rest (b ∷ s) starts k e =
     let l = lacks-cons lineFeed b s k in
     rw (e, l .0) (passed key rest s false (l .1) refl)
 
