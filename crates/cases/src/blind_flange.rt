@@ -42,13 +42,6 @@ fn by_place(s: BlindFlangeSheet, plates: &[u8]) {
     }
 }
 
-fn figures(s: BlindFlangeSheet, plates: &[u32]) {
-    let mut bytes = [0u8; 4 * MOST_NUMBERS];
-    let size = bytes_of(plates, &mut bytes);
-    text(b" :");
-    by_place(s, &bytes[..size]);
-}
-
 fn sheet_of(n: &[u64]) -> BlindFlangeSheet
     requires { ⌜ length blindFlangeFields ≤ length (now n) ⌝ }
 {
@@ -78,5 +71,8 @@ pub(crate) fn blind_flange(n: &[u64]) {
     let mut plates = [0u32; MOST_NUMBERS];
     let count = words(&n[blind_flange::FIELDS..], &mut plates);
     answered(rules::blind_flange(sheet, &plates[..count]));
-    figures(sheet, &plates[..count]);
+    let mut bytes = [0u8; 4 * MOST_NUMBERS];
+    let size = bytes_of(&plates[..count], &mut bytes);
+    text(b" :");
+    by_place(sheet, &bytes[..size]);
 }

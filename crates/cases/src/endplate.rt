@@ -35,13 +35,6 @@ fn by_place(s: EndplateSheet, plates: &[u8]) {
     }
 }
 
-fn figures(s: EndplateSheet, plates: &[u32]) {
-    let mut bytes = [0u8; 4 * MOST_NUMBERS];
-    let size = bytes_of(plates, &mut bytes);
-    text(b" :");
-    by_place(s, &bytes[..size]);
-}
-
 fn sheet_of(n: &[u64]) -> EndplateSheet
     requires { ⌜ length endplateFields ≤ length (now n) ⌝ }
 {
@@ -64,5 +57,8 @@ pub(crate) fn endplate(n: &[u64]) {
     let mut plates = [0u32; MOST_NUMBERS];
     let count = words(&n[endplate::FIELDS..], &mut plates);
     answered(rules::endplate(sheet, &plates[..count]));
-    figures(sheet, &plates[..count]);
+    let mut bytes = [0u8; 4 * MOST_NUMBERS];
+    let size = bytes_of(&plates[..count], &mut bytes);
+    text(b" :");
+    by_place(sheet, &bytes[..size]);
 }
