@@ -14,7 +14,7 @@ use Rattle.limits.specs.declared.EndplateSheet.{EndplateSheet}
 use Rattle.text.specs.Line.{before, after, valueOf}
 use Rattle.text.specs.Number.{numberOf}
 use Rattle.text.specs.Plates.{numbersListed, platesOf}
-use Rattle.text.specs.Printed.{printed}
+use Rattle.report.specs.Printed.{printed}
 use Rattle.text.specs.declared.number.Number.{Number}
 use Rattle.text.specs.declared.number.Number.the-variants.{Value}
 use Rattle.lines.specs.Fields.{lineOf}

@@ -24,7 +24,7 @@ use Rattle.text.specs.Ascii.{ascii, lineFeed}
 use Rattle.text.specs.Line.{before, after, valueOf}
 use Rattle.text.specs.Number.{numberOf}
 use Rattle.text.specs.Plates.{numbersListed, platesOf}
-use Rattle.text.specs.Decimal.{decimal, numberLine}
+use Rattle.report.specs.Decimal.{decimal, numberLine}
 use Rattle.report.specs.Report.{reportText}
 use Rattle.lines.specs.Fields.{lineOf}
 use Rattle.lines.specs.Lines.{platesLine, linesOf}

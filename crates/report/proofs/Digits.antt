@@ -6,8 +6,8 @@ use native.Mathlib.Omega.{arith}
 use native.Mathlib.Numerals.{unary-clauses}
 use borrow.Author.Tests.{lt-ltb}
 use Rattle.io.specs.Digits.{digits, glyph, Fewest}
-use Rattle.text.specs.Decimal.{decimal}
-use Rattle.text.specs.Laws.Spelled.{decimal-one, decimal-more}
+use Rattle.report.specs.Decimal.{decimal}
+use Rattle.report.specs.Laws.Spelled.{decimal-one, decimal-more}
 
 last : (n : ℕ) → glyph (n % 10) ≡ 48 + n % 10
 last n = rw (lt-ltb (n % 10) 10 (omega arith))

@@ -1,3 +1,5 @@
 -- Laws that callers cite.
 pub mod Laid
+pub mod Spelled
+pub mod RoundTrip
 pub mod ReadBack

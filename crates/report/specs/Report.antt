@@ -7,7 +7,7 @@ use Rattle.rules.specs.Answer.{reportOf}
 use Rattle.rules.specs.declared.Answer.{Answer}
 use Rattle.rules.specs.declared.Answer.the-variants.{Endplate, BlindFlange, Refused}
 use Rattle.text.specs.Ascii.{ascii}
-use Rattle.text.specs.Decimal.{numberLine}
+use Rattle.report.specs.Decimal.{numberLine}
 
 -- the keys of a report's lines
 abbrev pub keysOf : Answer → List String

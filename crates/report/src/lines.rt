@@ -5,7 +5,7 @@ use rules::EndplateFigures;
 ghost use Prim.Native.Nat.{_+_, _≤_};
 ghost use lib.ListN.{length};
 ghost use Rattle.rules.specs.declared.Answer.the-variants.{Endplate, BlindFlange, Refused};
-ghost use Rattle.text.specs.Decimal.{decimal, numberLine};
+ghost use Rattle.report.specs.Decimal.{decimal, numberLine};
 ghost use Rattle.report.specs.Report.{reportText, lineRoom, longest};
 ghost use Rattle.report.specs.Space.{Wrote};
 

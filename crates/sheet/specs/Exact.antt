@@ -7,7 +7,7 @@ use mathlib.Core.Path.{_≡_}
 use Rattle.rules.specs.Answer.{Accepted}
 use Rattle.rules.specs.Exact.{EndplateThicknessExact, EndplateExact, ThicknessExact, EdgeExact, BlindFlangeExact}
 use Rattle.rules.specs.declared.Answer.{Answer}
-use Rattle.text.specs.Printed.{printed}
+use Rattle.report.specs.Printed.{printed}
 use Rattle.text.specs.declared.number.Number.the-variants.{Value}
 use Rattle.sheet.specs.Sheet.{Sheet, malformed, endplate, blindFlange, sheetOf, answerOf}
 use Rattle.sheet.specs.Outcome.{reportFor}

@@ -1,5 +1,3 @@
 -- Laws that callers cite, and what they rest on.
 pub mod Joined
-pub mod Spelled
-pub mod RoundTrip
 pub mod Padded

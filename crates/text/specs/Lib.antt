@@ -4,6 +4,4 @@ pub mod Line
 pub mod Number
 pub mod Padded
 pub mod Plates
-pub mod Decimal
-pub mod Printed
 pub mod Laws

@@ -12,11 +12,11 @@ use Rattle.rules.specs.declared.Answer.the-variants.{Endplate, BlindFlange, Ref
 use Rattle.bytes.specs.Bytes.{indexOf, indexAfter}
 use Rattle.text.specs.Ascii.{ascii, equals, lineFeed}
 use Rattle.text.specs.Line.{same}
-use Rattle.text.specs.Printed.{printedFrom, printed}
+use Rattle.report.specs.Printed.{printedFrom, printed}
 use Rattle.text.specs.declared.number.Number.{Number}
 use Rattle.text.specs.declared.number.Number.the-variants.{Value, Malformed}
 use Rattle.text.specs.Laws.Joined.{Lacks}
-use Rattle.text.specs.Laws.RoundTrip.{printed-line}
+use Rattle.report.specs.Laws.RoundTrip.{printed-line}
 use Rattle.report.specs.Report.{keysOf, reportNumbers, numberLines, reportText}
 
 -- the number beside the first key that is this one

@@ -1,7 +1,7 @@
 -- `lines::put_line` meets its contract. Assumes nothing.
 use native.Mathlib.Omega.{arith}
 use borrow.Author.Needs.{needs}
-use Rattle.text.specs.Decimal.{numberLine}
+use Rattle.report.specs.Decimal.{numberLine}
 use Rattle.report.proofs.Written.{followed-by}
 use Rattle.report.proofs.lines.put_line.Statement.{statement}
 use Rattle.report.proofs.lines.put_line.Tie as tie

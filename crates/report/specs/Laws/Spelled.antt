@@ -8,11 +8,11 @@ use borrow.Author.Tests.{ltb-true, ltb-false, le-leb, lt-ltb, le-ltb, ne-eqb}
 use lib.Dec.{ltb}
 use lib.ListN.{length, length-append}
 use Rattle.bytes.specs.Bytes.{indexOf, indexAfter}
 use Rattle.text.specs.Ascii.{lineFeed}
 use Rattle.text.specs.Number.{isDigit, digitsAfter}
-use Rattle.text.specs.Decimal.{digitsOf, decimal}
+use Rattle.report.specs.Decimal.{digitsOf, decimal}
 use Rattle.text.specs.declared.number.Number.the-variants.{Value, Malformed}
 use Rattle.text.specs.Laws.Joined.{Lacks, index-append}
 
 -- fuel beyond n changes nothing
 fuel : (f g n : ℕ) → n ≤ f → n ≤ g → digitsOf f n ≡ digitsOf g n

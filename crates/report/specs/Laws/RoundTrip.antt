@@ -9,13 +9,13 @@ use lib.Dec.{eqb}
 use lib.ListN.{length, getD, length-append}
 use lib.Seq.{drop-append-seam, take-append-seam}
 use Rattle.bytes.specs.Bytes.{indexOf, indexAfter}
 use Rattle.text.specs.Ascii.{equals, lineFeed}
 use Rattle.text.specs.Line.{contains, begins, same, isLine, valueOf}
-use Rattle.text.specs.Decimal.{decimal, numberLine}
-use Rattle.text.specs.Printed.{wholeNumber, printedFrom}
+use Rattle.report.specs.Decimal.{decimal, numberLine}
+use Rattle.report.specs.Printed.{wholeNumber, printedFrom}
 use Rattle.text.specs.declared.number.Number.the-variants.{Value}
 use Rattle.text.specs.Laws.Joined.{Lacks, lacks-cons, index-append}
-use Rattle.text.specs.Laws.Spelled.{decimal-reads, decimal-some, decimal-line}
+use Rattle.report.specs.Laws.Spelled.{decimal-reads, decimal-some, decimal-line}
 
 module _ (key rest : List ℕ) (n : ℕ) (k : Lacks lineFeed key) where
   abbrev start : List ℕ
