@@ -1,6 +1,6 @@
 -- `endplate::by_place` ends. Assumes nothing.
 use Prim.Native.Nat.{_-_, _≤_}
-use borrow.Author.Needs.{needs}
+use native.Mathlib.Omega.{arith}
 use Rattle.cases.proofs.endplate.by_place.Statement.{statement}
 use Rattle.cases.proofs.endplate.by_place.Tie as tie
 
@@ -16,10 +16,10 @@ by-place-spec =
     (tie.spec
     Inv-loop
     μ-loop
-    (λ c. search needs)
-    (λ c κs. search needs)
-    (λ c κs. search needs)
-    (λ c. search needs)
-    (λ c. search needs)
-    (λ c. search needs)
-    (λ c. search needs))
+    (λ c. omega arith)
+    (λ c κs. omega arith)
+    (λ c κs. omega arith)
+    (λ c. omega arith)
+    (λ c. omega arith)
+    (λ c. omega arith)
+    (λ c. omega arith))

@@ -4,7 +4,6 @@ use mathlib.Core.Path.{_≡_, sym}
 use native.Mathlib.Omega.{arith}
 use lib.ListN.{length, length-set}
 use lib.Seq.{length-take-le}
-use borrow.Author.Needs.{needs}
 use Rattle.cases.proofs.sheets.decode.Statement.{statement}
 use Rattle.cases.proofs.sheets.decode.Tie as tie
 
@@ -20,14 +19,14 @@ decode-spec =
     (tie.spec
     Inv-loop
     μ-loop
-    (λ c. search needs)
-    (λ c. search needs)
+    (λ c. omega arith)
+    (λ c. omega arith)
     (λ c. (omega arith, sym (length-take-le _ _ (omega arith))))
-    (λ c. search needs)
-    (λ c κs. search needs)
-    (λ c. search needs)
-    (λ c. search needs)
-    (λ c. search needs)
+    (λ c. omega arith)
+    (λ c κs. omega arith)
+    (λ c. omega arith)
+    (λ c. omega arith)
+    (λ c. omega arith)
     (λ c. (omega arith, simp length-set (omega arith), simp length-set (omega arith)))
-    (λ c. search needs)
+    (λ c. omega arith)
     (λ c. (omega arith, sym (length-take-le _ _ (omega arith)))))

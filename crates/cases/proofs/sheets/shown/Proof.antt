@@ -1,6 +1,7 @@
 -- `sheets::shown` keeps within its array, and ends. Assumes nothing.
 use Prim.Native.Nat.{_-_, _≤_}
 use mathlib.Core.Path.{_≡_}
+use native.Mathlib.Omega.{arith}
 use borrow.Author.Needs.{needs}
 use lib.ListN.{length}
 use Rattle.cases.proofs.sheets.shown.Statement.{statement}
@@ -18,11 +19,11 @@ shown-spec =
     (tie.spec
     Inv-loop
     μ-loop
+    (λ c. omega arith)
+    (λ c. omega arith)
+    (λ c κs. omega arith)
+    (λ c. omega arith)
+    (λ c. omega arith)
+    (λ c. omega arith)
     (λ c. search needs)
-    (λ c. search needs)
-    (λ c κs. search needs)
-    (λ c. search needs)
-    (λ c. search needs)
-    (λ c. search needs)
-    (λ c. search needs)
-    (λ c. search needs))
+    (λ c. omega arith))
