@@ -18,14 +18,11 @@ fn push(numbers: &mut [u64], count: usize, value: u64) -> usize
     count
 }
 
-fn twice(n: u64) -> u64 {
-    wrapping_add_u64(n, n)
-}
-
 // Ten times the value and the digit; a number of 2^64 and more is not meant.
 fn with_digit(value: u64, digit: u8) -> u64 {
-    let five = wrapping_add_u64(twice(twice(value)), value);
-    wrapping_add_u64(twice(five), (digit % 16) as u64)
+    let two = wrapping_add_u64(value, value);
+    let five = wrapping_add_u64(wrapping_add_u64(two, two), value);
+    wrapping_add_u64(wrapping_add_u64(five, five), (digit % 16) as u64)
 }
 
 // The number that the digits spell.

@@ -122,14 +122,19 @@ here [] [] e = absurd (false≢true e)
 here (a ∷ key) [] e = absurd (false≢true e)
 here key (b ∷ t) e = rw e
 
--- a line that is not of the key is passed over, up to its LF
-passed : (key rest s : List ℕ) (starts : Bool) → Lacks lineFeed s → (starts && isLine key (s ++ lineFeed ∷ rest)) ≡ false
-    → printedFrom starts key (s ++ lineFeed ∷ rest) ≡ printedFrom true key rest
+-- the rest of a line is passed over, with its LF, and so is a line that is not of the key
+passed-rest : (key rest s : List ℕ) → Lacks lineFeed s → printedFrom false key (s ++ lineFeed ∷ rest) ≡ printedFrom true key rest
 unfolding printedFrom
-passed key rest [] starts k e = rw e
-passed key rest (b ∷ s) starts k e =
+passed-rest key rest [] k = refl
+passed-rest key rest (b ∷ s) k =
     let l = lacks-cons lineFeed b s k in
-    rw (e, l .0) (passed key rest s false (l .1) refl)
+    ap (λ (line : Bool). printedFrom line key (s ++ lineFeed ∷ rest)) (l .0) ∙ passed-rest key rest s (l .1)
+
+passed : (key rest s : List ℕ) → Lacks lineFeed s → isLine key (s ++ lineFeed ∷ rest) ≡ false
+    → printedFrom true key (s ++ lineFeed ∷ rest) ≡ printedFrom true key rest
+unfolding printedFrom
+passed key rest [] k e = rw e
+passed key rest (b ∷ s) k e = let l = lacks-cons lineFeed b s k in rw (e, l .0) (passed-rest key rest s (l .1))
 
 -- keys of one length have one value
 same-value : (key own t : List ℕ) → same key own ≡ true → valueOf key t ≡ valueOf own t
@@ -156,4 +161,4 @@ module _ (key own rest : List ℕ) (n : ℕ) (k : Lacks equals key) (o : Lacks e
           here key (numberLine own n ++ rest) (line-is ∙ e)
           ∙ rw (same-value key own (numberLine own n ++ rest) e) (line-number own rest n l)
       go false e =
-          rw ended (passed key rest (body own rest n l) true (body-lacks own rest n l) (rw (← ended) (line-is ∙ e)))
+          rw ended (passed key rest (body own rest n l) (body-lacks own rest n l) (rw (← ended) (line-is ∙ e)))
