@@ -81,8 +81,8 @@ fn length_of(outcome: Outcome) -> usize
     }
 }
 
-// The same for callers who want the report alone: the length of the one that results. It stands at the front of `out`
-// if that is long enough; otherwise `out` is as it was.
+// Answers the sheet for callers who want its report alone: the length of the one that results. It stands at the front
+// of `out` if that is long enough; otherwise `out` is as it was.
 pub fn write_report(text: &[u8], out: &mut [u8]) -> usize
     ensures { λ r. ⌜ r ≡ lengthFor (now (text .entry)) ⌝ }
     ensures content { λ _. ⌜ now (out .exit) ≡ spaceOf (now (text .entry)) (now (out .entry)) ⌝ }
