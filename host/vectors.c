@@ -88,13 +88,11 @@ static void work_question(const char *line, const struct kind *kind)
     printf("\n");
 }
 
-static size_t decode(const char *signs, uint8_t text[VECTOR_TEXT], const char *line)
+static size_t decode(const char *signs, uint8_t text[VECTOR_LINE])
 {
     size_t length = 0;
     for (; signs[length] != '\0'; length++) {
         const char *sign = memchr(vector_signs, signs[length], VECTOR_SIGNS);
-        if (length == VECTOR_TEXT)
-            give_up("text too long", line);
         text[length] = (uint8_t)(sign == NULL ? signs[length] : vector_bytes[sign - vector_signs]);
     }
     return length;
@@ -103,13 +101,14 @@ static size_t decode(const char *signs, uint8_t text[VECTOR_TEXT], const char *l
 static void work_sheet(const char *line, const struct kind *kind)
 {
     (void)kind;
-    uint8_t text[VECTOR_TEXT], report[PAPER_REPORT_ROOM], space[VECTOR_ROOM];
+    static uint8_t text[VECTOR_LINE];
+    uint8_t report[PAPER_REPORT_ROOM], space[VECTOR_ROOM];
     struct paper_answer answer;
     char *end;
     const unsigned long room = strtoul(line + 2, &end, 10);
     if (room > VECTOR_ROOM || *end != ' ')
         give_up("no room and text", line);
-    const size_t length = paper_report(text, decode(end + 1, text, line), report, &answer);
+    const size_t length = paper_report(text, decode(end + 1, text), report, &answer);
     if (length > VECTOR_ROOM)
         give_up("a report longer than any space", line);
     memset(space, '.', sizeof space);

@@ -14,7 +14,7 @@ enum vector_kind {
 #define VECTOR_NUMBERS 1023 /* on a line, its kind among them */
 #define VECTOR_ROOM 160     /* bytes of the largest space */
 
-#define VECTOR_TEXT 512 /* bytes of a sheet that is made */
+#define VECTOR_TEXT 512 /* bytes of a sheet that `vectors make` writes, so that lines can be read */
 
 /* Bytes of a sheet that a line cannot hold, LF, CR, NUL and 255, and the signs that stand for them. */
 #define VECTOR_SIGNS 4
