@@ -82,7 +82,7 @@ struct paper_part {
     const char *const *keys;        /* of the numbers */
     const char *const *report_keys; /* by place */
     uint32_t last_place;            /* of the report's figures, the plate's */
-    uint32_t thickness_place, edge_thickness_place; /* of what exact judges; the latter 0 if there is none */
+    uint32_t thickness_place, edge_thickness_place; /* of what exact judges; an endplate's edge is past its report */
     void (*work)(const uint32_t n[], const uint32_t *plates, size_t count, uint64_t figures[PAPER_PLACES]);
     int (*exact)(const uint32_t n[], const uint64_t figures[PAPER_PLACES]);
 };

@@ -26,8 +26,9 @@ static const char *const blind_report_keys[] = {
 const struct paper_part paper_parts[PARTS] = {
     [PART_NONE] = {.report_keys = refusal_keys},
     [PART_END] = {.word = "end", .numbers = END_NUMBERS, .keys = end_keys, .report_keys = end_report_keys,
-                  .last_place = END_PLATE_PLACE, .thickness_place = END_THICKNESS_PLACE, .edge_thickness_place = 0,
-                  .work = paper_endplate, .exact = paper_endplate_exact},
+                  .last_place = END_PLATE_PLACE, .thickness_place = END_THICKNESS_PLACE,
+                  .edge_thickness_place = BLIND_EDGE_THICKNESS_PLACE, .work = paper_endplate,
+                  .exact = paper_endplate_exact},
     [PART_BLIND] = {.word = "blind", .numbers = BLIND_NUMBERS, .keys = blind_keys, .report_keys = blind_report_keys,
                     .last_place = BLIND_PLATE_PLACE, .thickness_place = BLIND_THICKNESS_PLACE,
                     .edge_thickness_place = BLIND_EDGE_THICKNESS_PLACE, .work = paper_blind_flange,

@@ -11,7 +11,7 @@ use Rattle.rules.specs.Answer.{Accepted}
 use Rattle.rules.specs.declared.Answer.{Answer}
 use Rattle.rules.specs.declared.Answer.the-variants.{Endplate, BlindFlange, Refused as Answer·Refused}
 use Rattle.text.specs.Ascii.{lineFeed}
-use Rattle.text.specs.Line.{before, after, valueOf}
+use Rattle.text.specs.Line.{before, valueOf}
 use Rattle.report.specs.Decimal.{numberLine}
 use Rattle.report.specs.Printed.{printedFrom, printed}
 use Rattle.text.specs.declared.number.Number.{Number}

@@ -1,5 +1,4 @@
 -- `blind_flange::blind_flange_field` meets its contract. Assumes nothing.
-use mathlib.Core.Path.{_≡_}
 use native.Mathlib.Omega.{arith}
 use borrow.Author.Needs.{needs}
 use Rattle.lines.proofs.LastArm.{past-all}
