@@ -1,53 +1,16 @@
--- `root::least_root` meets its contract. Invariant: the square of `high` reaches n, and that of no number below `low`
--- does. Assumes nothing.
-use Prim.Native.Nat.{ℕ, _+_, _*_, _-_, _/_, _≤_, _<_}
+-- `root::least_root` meets its contract. Assumes nothing.
 use native.Mathlib.Omega.{arith}
-use Rattle.root.specs.Laws.{leastRoot-unique, square-le}
+use borrow.Author.Needs.{needs}
+use Rattle.root.proofs.WholeRoot.{none-left, some-left}
 use Rattle.root.proofs.least_root.Statement.{statement}
 use Rattle.root.proofs.least_root.Tie as tie
 
-abbrev Inv-loop : tie.InvT-loop
-Inv-loop n low₀ high₀ low high =
-    (low ≤ high) × (high ≤ 4294967296) × (n ≤ high * high) × ((s : ℕ) → s < low → s * s < n)
+returns : tie.Need-returns
+returns c = let w = c .before .before .before .from-quarter .ensures in some-left _ _ _ (w .1, w .2) (omega arith)
 
-abbrev μ-loop : tie.MeasureT-loop
-μ-loop n low₀ high₀ low high = high - low
-
-mul-if1 : tie.Need-mul-if1 Inv-loop μ-loop
-mul-if1 c =
-    let l = c .before .loop in
-    omega (arith, square-le {a = (l .low + l .high) / 2} {b = 4294967295} (omega arith))
-
-loop-again : tie.Need-loop-again Inv-loop μ-loop
-loop-again c =
-    let l = c .before .before .loop in (
-      omega arith,
-      omega arith,
-      omega arith,
-      λ s h. omega (arith, square-le {a = s} {b = (l .low + l .high) / 2} (omega arith)),
-    )
-
-loop-again-2 : tie.Need-loop-again-2 Inv-loop μ-loop
-loop-again-2 c = (omega arith, omega arith, omega arith, c .before .before .loop .inv .3)
-
-returns : tie.Need-returns Inv-loop μ-loop
-returns c = leastRoot-unique _ _ record {
-  holds = c .before .loop .inv .2;
-  fails = λ s l r. omega (arith, c .before .loop .inv .3 s (omega arith));
-}
+returns-2 : tie.Need-returns-2
+returns-2 c = let w = c .before .before .before .from-quarter .ensures in none-left _ _ _ (w .1, w .2) (omega arith)
 
 pub least-root-spec : {M : Type 1} → statement M
 least-root-spec =
-    tie.close
-    (tie.spec
-    Inv-loop
-    μ-loop
-    (λ c. omega arith)
-    (λ c. omega arith)
-    mul-if1
-    (λ c. omega arith)
-    (λ c. omega arith)
-    loop-again
-    (λ c. omega arith)
-    loop-again-2
-    returns)
+    tie.close (tie.spec (λ c κs. search needs) (λ c κs. search needs) (λ c. search needs) returns returns-2)
