@@ -46,7 +46,8 @@ fn with_digit(x: u64, digit: u64) -> u64
     (x << 2) + digit
 }
 
-// The whole root of n and what is left over, from the sum of those of its quarter, n / 4: a root of one binary digit more.
+// The whole root of n and what is left over, from the sum of those of its quarter, n / 4, whose root has one binary digit
+// less.
 fn from_quarter(quarter: u64, n: u64) -> Whole
     requires { let r = quarter / 2 ^ 32 in let l = quarter % 2 ^ 32 in ⌜ (r * r + l ≡ n / 4) × (l ≤ 2 * r) ⌝ }
     ensures { λ w. let r = w .high / 2 ^ 32 in
