@@ -4,7 +4,8 @@
 #define BLIND(number, value) {PART_BLIND, BLIND_##number, FIXED, value}
 #define RULE(number, rule) {PART_BLIND, BLIND_##number, rule, 0}
 
-/* In the order of the numbers. The temperatures are the columns of Table 1, 126 the width from which b has its root. */
+/* In the order of the numbers. The temperatures are the columns of Table 1, 126 the width from which b has its root; up to
+   diameters of 20000 a report does not depend on R-2. */
 const struct limit limits[] = {
     END(FORM, 1), END(FORM, 3),
     END(MATERIAL, 1), END(MATERIAL, 7), END(MATERIAL, 9), END(MATERIAL, 11),
@@ -12,7 +13,7 @@ const struct limit limits[] = {
     END(TEMPERATURE, 50), END(TEMPERATURE, 100), END(TEMPERATURE, 150), END(TEMPERATURE, 175), END(TEMPERATURE, 200),
     END(TEMPERATURE, 225), END(TEMPERATURE, 250), END(TEMPERATURE, 275), END(TEMPERATURE, 300),
     END(PRESSURE, 1), END(PRESSURE, 2000),
-    END(DIAMETER, 500), END(DIAMETER, 20000),
+    END(DIAMETER, 500), END(DIAMETER, 20000), END(DIAMETER, 30000),
     END(ALLOWANCE, 1000),
     BLIND(MATERIAL, 1), BLIND(MATERIAL, 7), BLIND(MATERIAL, 9), BLIND(MATERIAL, 11),
     BLIND(TEMPERATURE, 50), BLIND(TEMPERATURE, 100), BLIND(TEMPERATURE, 150), BLIND(TEMPERATURE, 175),
@@ -20,7 +21,7 @@ const struct limit limits[] = {
     BLIND(TEMPERATURE, 300),
     BLIND(PRESSURE, 1), BLIND(PRESSURE, 2000),
     BLIND(ALLOWANCE, 1000),
-    BLIND(OD, 500), BLIND(OD, 20000),
+    BLIND(OD, 500), BLIND(OD, 20000), BLIND(OD, 30000),
     BLIND(WIDTH, 100), BLIND(WIDTH, 126), BLIND(WIDTH, 500), RULE(WIDTH, WIDTH_AT_OD),
     BLIND(M, 650), BLIND(Y, 1800),
     RULE(CIRCLE, CIRCLE_AT_OD), RULE(CIRCLE, CIRCLE_AT_G),

@@ -67,7 +67,7 @@ static void draw_endplate(struct rng *rng, const int64_t *wish, uint32_t *n)
     n[END_TEMPERATURE] =
         pick_temperature(rng, wish[END_TEMPERATURE], is_copper(n[END_MATERIAL]) || is_copper(n[END_SHELL]));
     n[END_PRESSURE] = pick(rng, wish[END_PRESSURE], 1, 2000);
-    n[END_DIAMETER] = pick(rng, wish[END_DIAMETER], 500, 20000);
+    n[END_DIAMETER] = pick(rng, wish[END_DIAMETER], 500, 30000);
     n[END_ALLOWANCE] = pick(rng, wish[END_ALLOWANCE], 0, 1000);
 }
 
@@ -118,7 +118,7 @@ static void draw_blind_flange(struct rng *rng, const int64_t *wish, uint32_t *n)
     n[BLIND_TEMPERATURE] = pick_temperature(rng, wish[BLIND_TEMPERATURE], is_copper(n[BLIND_MATERIAL]));
     n[BLIND_PRESSURE] = pick(rng, wish[BLIND_PRESSURE], 1, 2000);
     n[BLIND_ALLOWANCE] = pick(rng, wish[BLIND_ALLOWANCE], 0, 1000);
-    n[BLIND_OD] = pick(rng, wish[BLIND_OD], 540, rng_one_in(rng, 2) ? 4000 : 20000);
+    n[BLIND_OD] = pick(rng, wish[BLIND_OD], 540, rng_one_in(rng, 2) ? 4000 : 30000);
     n[BLIND_WIDTH] = pick(rng, wish[BLIND_WIDTH], 100, n[BLIND_OD] < 2000 ? n[BLIND_OD] / 4 : 500);
     n[BLIND_M] = pick(rng, wish[BLIND_M], 0, 650);
     n[BLIND_Y] = pick(rng, wish[BLIND_Y], 0, 1800);

@@ -188,7 +188,7 @@ static int shared_cause(
         return CAUSE_TEMPERATURE;
     if (design_stress == 0)
         return CAUSE_DESIGN_STRESS;
-    if (diameter < 500 || diameter > 20000)
+    if (diameter < 500 || diameter > 30000)
         return CAUSE_DIAMETER;
     if (allowance > 1000)
         return CAUSE_ALLOWANCE;

@@ -196,7 +196,7 @@ static void put_causes(void (*put_it)(const struct question *))
         [END_DIAMETER] = 499, [END_ALLOWANCE] = 1001};
     static const uint32_t blind[BLIND_NUMBERS] = {
         [BLIND_MATERIAL] = 7, [BLIND_TEMPERATURE] = 301, [BLIND_PRESSURE] = 2001, [BLIND_ALLOWANCE] = 1001,
-        [BLIND_OD] = 20001, [BLIND_WIDTH] = 501, [BLIND_M] = 651, [BLIND_Y] = 1801, [BLIND_CIRCLE] = 0,
+        [BLIND_OD] = 30001, [BLIND_WIDTH] = 501, [BLIND_M] = 651, [BLIND_Y] = 1801, [BLIND_CIRCLE] = 0,
         [BLIND_BOLT] = 77, [BLIND_ROOT] = 0, [BLIND_COUNT] = 101, [BLIND_SA] = 0, [BLIND_SB] = 401};
     static const struct mend end_mends[] = {
         {END_FORM, FORM_C}, {END_MATERIAL, 6}, {END_SHELL, 1}, {END_PRESSURE, 1000}, {END_TEMPERATURE, 225},

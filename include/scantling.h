@@ -89,7 +89,7 @@ uint64_t scantling_endplate(
     uint32_t shell,       /* material of the cylinder: 1 to 11; 0 exactly for form a */
     uint32_t temperature, /* design temperature, degrees C: 0 to 300 */
     uint32_t pressure,    /* thousandths of N/mm2: 1 to 2000 */
-    uint32_t diameter,    /* bolt circle (a) or inside of the shell (c, d), tenths of a mm: 500 to 20000 */
+    uint32_t diameter,    /* bolt circle (a) or inside of the shell (c, d), tenths of a mm: 500 to 30000 */
     uint32_t allowance,   /* for corrosion, hundredths of a mm: 0 to 1000 */
     const uint8_t *plates, /* thicknesses in hundredths of a mm, four bytes each, lowest first */
     size_t plates_length, /* in bytes, any; a last 1 to 3 bytes over are not read. plates may be null if it is 0 */
@@ -101,7 +101,7 @@ uint64_t scantling_blind_flange(
     uint32_t temperature, /* design temperature, degrees C: 0 to 300 */
     uint32_t pressure,    /* thousandths of N/mm2: 1 to 2000 */
     uint32_t allowance,   /* for corrosion, hundredths of a mm: 0 to 1000 */
-    uint32_t od,          /* gasket outside contact diameter, tenths of a mm: 500 to 20000 */
+    uint32_t od,          /* gasket outside contact diameter, tenths of a mm: 500 to 30000 */
     uint32_t width,       /* gasket contact width, tenths of a mm: 100 to 500, and 4 * width at most od */
     uint32_t m,           /* gasket factor, hundredths: 0 to 650 */
     uint32_t y,           /* gasket seating stress, tenths of N/mm2: 0 to 1800 */

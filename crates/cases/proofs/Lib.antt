@@ -2,3 +2,4 @@
 mod Starred
 mod EmptyPrograms
 mod ConstantNeed
+mod GreatestDiameter

@@ -2,7 +2,7 @@
 -- the numbers to rise. Assumes nothing.
 use mathlib.Core.Path.{_≡_, refl, sym, ap, subst, _∙_}
 use mathlib.Core.Logic.{_≢_}
-use mathlib.Core.Bool.{Bool, true, false, not, _||_, cond, or-assoc, or-false}
+use mathlib.Core.Bool.{Bool, true, false, not, _||_, _&&_, cond, or-assoc, or-false}
 use mathlib.Mathlib.Data.Bool.Basic.{or-eq-false-eq-eq-false-and-eq-false}
 use mathlib.Core.List.{List, [], _∷_, _++_, foldl, foldl-append, List·Memᴰ, List·Memᴰ·head, List·Memᴰ·tail, List·Memᴰ·not-nil}
 use Prim.Native.Nat.{ℕ, zero, suc}
@@ -188,3 +188,65 @@ pub none-passed-over :
     any (c .1) ≡ false
 none-passed-over cs t e c m =
     at-its-row cs c m (none-applies checkingOrder cs tt e (c .0) (listed cs c t m))
+
+-- ---- a row more
+
+-- where the same numbers apply, the same one is the first
+same-first :
+    (ns : List ℕ) (cs ds : Causes) →
+    ((n : ℕ) → any (testsOf cs n) ≡ any (testsOf ds n)) →
+    firstOf ns cs ≡ firstOf ns ds
+unfolding firstOf
+same-first [] cs ds e = refl
+same-first (n ∷ ns) cs ds e = rw (e n, same-first ns cs ds e)
+
+module _ (number : ℕ) (ts : Tests) (cs : Causes) where
+  abbrev more : Causes
+  more = (number, ts) ∷ cs
+
+  -- what the row adds: its own tests, under its number
+  pub row-tests : (n : ℕ) → any (testsOf more n) ≡ ((eqb number n && any ts) || any (testsOf cs n))
+  row-tests n = by-number (eqb number n)
+    where
+      by-number :
+          (b : Bool) →
+          any (cond b (ts ++ testsOf cs n) (testsOf cs n)) ≡ ((b && any ts) || any (testsOf cs n))
+      by-number true = any-append ts (testsOf cs n)
+      by-number false = refl
+
+  more-from : (ns : List ℕ) → firstOf ns more ≢ number → firstOf ns more ≡ firstOf ns cs
+  unfolding firstOf
+  more-from [] h = refl
+  more-from (n ∷ ns) h =
+      rw (row-tests n) (by-test (eqb number n) refl (any ts) (any (testsOf cs n)) (more-from ns) (rw (row-tests n) at h))
+    where
+      by-test :
+          (b : Bool) →
+          eqb number n ≡ b →
+          (own others : Bool) →
+          (firstOf ns more ≢ number → firstOf ns more ≡ firstOf ns cs) →
+          cond ((b && own) || others) n (firstOf ns more) ≢ number →
+          cond ((b && own) || others) n (firstOf ns more) ≡ cond others n (firstOf ns cs)
+      by-test true q true others r h = absurd (h (sym (eqb-true number n q)))
+      by-test true q false true r h = refl
+      by-test true q false false r h = r h
+      by-test false q own true r h = refl
+      by-test false q own false r h = r h
+
+  -- a row more refuses more under its number and nothing else: what that number does not answer is answered as without it
+  pub row-more : firstCause more ≢ number → firstCause more ≡ firstCause cs
+  row-more = more-from checkingOrder
+
+  -- and nothing at all where its number applies without it wherever it would with it
+  pub row-idle : (any ts ≡ true → any (testsOf cs number) ≡ true) → firstCause more ≡ firstCause cs
+  row-idle h = same-first checkingOrder more cs (λ n. row-tests n ∙ by-number n (eqb number n) refl (any ts) refl)
+    where
+      by-number :
+          (n : ℕ) (b : Bool) →
+          eqb number n ≡ b →
+          (own : Bool) →
+          any ts ≡ own →
+          ((b && own) || any (testsOf cs n)) ≡ any (testsOf cs n)
+      by-number n true q true o = sym (subst (λ (k : ℕ). any (testsOf cs k) ≡ true) (eqb-true number n q) (h o))
+      by-number n true q false o = refl
+      by-number n false q own o = refl

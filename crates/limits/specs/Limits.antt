@@ -37,9 +37,9 @@ temperatureRefused temperature = ltb 300 temperature ∷ []
 abbrev pub noStress : ℕ → Tests
 noStress stress = eqb stress 0 ∷ []
 
--- 6: dia or od below 500 or over 20000
+-- 6: dia or od below 500 or over 30000
 abbrev pub diameterRefused : ℕ → Tests
-diameterRefused diameter = ltb diameter 500 ∷ ltb 20000 diameter ∷ []
+diameterRefused diameter = ltb diameter 500 ∷ ltb 30000 diameter ∷ []
 
 -- 7: allow over 1000
 abbrev pub allowanceRefused : ℕ → Tests

@@ -75,7 +75,7 @@ fn no_stress(stress: u32) -> bool
 fn diameter_refused(diameter: u32) -> bool
     ensures { λ r. ⌜ r ≡ any (diameterRefused diameter) ⌝ }
 {
-    (diameter < 500) | (20000 < diameter)
+    (diameter < 500) | (30000 < diameter)
 }
 
 fn allowance_refused(allowance: u32) -> bool

@@ -22,16 +22,22 @@ use Rattle.rules.specs.declared.sizing.Sizing.the-variants.{Refused as S
 use Rattle.rules.specs.declared.Answer.{Answer}
 use Rattle.rules.specs.declared.Answer.the-variants.{Endplate, BlindFlange, Refused}
 
--- ---- a part's size, before its plate is chosen; or the first cause that applies
+-- ---- a part's size, before its plate is chosen; or the cause of its refusal, the first that applies
 
 abbrev pub refusedOr : ℕ → Sizing → Sizing
 refusedOr cause sized = cond (eqb cause 0) sized (Sizing·Refused cause)
 
+abbrev pub endplateUnless : ℕ → EndplateSheet → Sizing
+endplateUnless cause s = refusedOr cause (Sizing·Endplate (endplateFigures s))
+
+abbrev pub blindFlangeUnless : ℕ → BlindFlangeSheet → Sizing
+blindFlangeUnless cause s = refusedOr cause (Sizing·BlindFlange (blindFlangeFigures s))
+
 unfoldable pub endplateSizing : EndplateSheet → Sizing
-endplateSizing s = refusedOr (firstCause (endplateCauses s)) (Sizing·Endplate (endplateFigures s))
+endplateSizing s = endplateUnless (firstCause (endplateCauses s)) s
 
 unfoldable pub blindFlangeSizing : BlindFlangeSheet → Sizing
-blindFlangeSizing s = refusedOr (firstCause (blindFlangeCauses s)) (Sizing·BlindFlange (blindFlangeFigures s))
+blindFlangeSizing s = blindFlangeUnless (firstCause (blindFlangeCauses s)) s
 
 -- total; what is refused has none
 abbrev pub totalOf : Sizing → ℕ
