@@ -8,13 +8,19 @@ use mathlib.Core.Path.{_≡_, refl, sym, ap, _∙_}
 use native.Mathlib.Omega.{arith}
 use borrow.Author.Tests.{ltb-true, lt-ltb}
 use lib.Dec.{ltb}
-use Rattle.limits.specs.Causes.{any, Causes, testsOf, firstCause}
+use Rattle.tables.specs.DesignStress.{column, designStress}
+use Rattle.root.specs.Root.{ceilDiv, wholeRootBy, leastRoot, leastRootOver}
+use Rattle.plates.specs.Plates.{smallestServing}
+use Rattle.limits.specs.Causes.{any, Causes, testsOf, firstOf, firstCause}
+use Rattle.limits.specs.Stress.{endplateStress}
 use Rattle.limits.specs.Limits.{endplateCauses, flangeLimits}
 use Rattle.limits.specs.Laws.{row-tests, row-more, row-idle}
 use Rattle.limits.specs.declared.EndplateSheet.{EndplateSheet}
 use Rattle.limits.specs.declared.BlindFlangeSheet.{BlindFlangeSheet}
+use Rattle.rules.specs.Endplate.{endplateThickness}
+use Rattle.rules.specs.Figures.{endplateFigures}
 use Rattle.rules.specs.FlangeCauses.{boltsCauses, blindFlangeCauses}
-use Rattle.rules.specs.Answer.{fromPlates, causeOf, endplateUnless, endplateSizing, endplateAnswer}
+use Rattle.rules.specs.Answer.{fromPlates, causeOf, reportOf, endplateUnless, endplateSizing, endplateAnswer}
 use Rattle.rules.specs.Answer.{blindFlangeUnless, blindFlangeSizing, blindFlangeAnswer}
 use Rattle.rules.specs.declared.Answer.{Answer}
 use Rattle.rules.specs.declared.Answer.the-variants.{Refused}
@@ -142,3 +148,23 @@ answered-otherwise (blindFlange s plates) e = flange-otherwise s plates e
 report-otherwise : (text : List ℕ) → Alike (diameterOf (sheetOf text)) → reportText (formerAnswer text) ≡ reportFor text
 unfolding answerOf
 report-otherwise text e = ap reportText (answered-otherwise (sheetOf text) e)
+
+-- ---- an end of 3,000 mm under 0.1 N/mm²: refused by 6 then, answered now
+
+storageEnd : EndplateSheet
+storageEnd = record {
+  form = 2;
+  material = 1;
+  shell = 1;
+  temperature = 100;
+  pressure = 100;
+  diameter = 30000;
+  allowance = 100;
+}
+
+newly-answered :
+    (formerEndplate storageEnd (5000 ∷ []) ≡ Refused 6 0)
+    × (reportOf (endplateAnswer storageEnd (5000 ∷ [])) ≡ 108 ∷ 4565 ∷ 4665 ∷ 5000 ∷ [])
+unfolding storageEnd column designStress ceilDiv wholeRootBy leastRoot leastRootOver endplateStress endplateThickness
+    endplateFigures endplateCauses firstOf endplateSizing smallestServing endplateAnswer
+newly-answered = (refl, refl)
