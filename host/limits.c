@@ -4,8 +4,8 @@
 #define BLIND(number, value) {PART_BLIND, BLIND_##number, FIXED, value}
 #define RULE(number, rule) {PART_BLIND, BLIND_##number, rule, 0}
 
-/* In the order of the numbers. The temperatures are the columns of Table 1, 126 the width from which b has its root; up to
-   diameters of 20000 a report does not depend on R-2. */
+/* In the order of the numbers. The temperatures are the columns of Table 1, 126 the width from which b has its root, 20000
+   the diameter up to which R-2 keeps every report. */
 const struct limit limits[] = {
     END(FORM, 1), END(FORM, 3),
     END(MATERIAL, 1), END(MATERIAL, 7), END(MATERIAL, 9), END(MATERIAL, 11),

@@ -22,11 +22,12 @@ use Rattle.rules.specs.declared.sizing.Sizing.the-variants.{Refused as S
 use Rattle.rules.specs.declared.Answer.{Answer}
 use Rattle.rules.specs.declared.Answer.the-variants.{Endplate, BlindFlange, Refused}
 
--- ---- a part's size, before its plate is chosen; or the cause of its refusal, the first that applies
+-- ---- a part's size, before its plate is chosen; or the first cause that applies
 
 abbrev pub refusedOr : ℕ → Sizing → Sizing
 refusedOr cause sized = cond (eqb cause 0) sized (Sizing·Refused cause)
 
+-- a part's size unless this cause refuses it; 0 is none
 abbrev pub endplateUnless : ℕ → EndplateSheet → Sizing
 endplateUnless cause s = refusedOr cause (Sizing·Endplate (endplateFigures s))
 
