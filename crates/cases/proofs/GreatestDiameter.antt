@@ -28,35 +28,49 @@ use Rattle.report.specs.Report.{reportText}
 use Rattle.sheet.specs.Sheet.{Sheet, malformed, endplate, blindFlange, sheetOf, answered, answerOf}
 use Rattle.sheet.specs.Outcome.{reportFor}
 
--- ---- the former answers: the present ones, with 20000 as the greatest diameter
+-- ---- the answer to a sheet, from the first cause that applies
 
--- the causes with a row more: 6 refuses over 20000 too
-abbrev former : ℕ → Causes → Causes
-former diameter causes = (6, ltb 20000 diameter ∷ []) ∷ causes
+-- dia or od; a malformed sheet has none
+abbrev diameterOf : Sheet → ℕ
+diameterOf (malformed line) = 0
+diameterOf (endplate s plates) = s .diameter
+diameterOf (blindFlange s plates) = s .od
 
-abbrev formerEndplate : EndplateSheet → List ℕ → Answer
-formerEndplate s plates = fromPlates (endplateUnless (firstCause (former (s .diameter) (endplateCauses s))) s) plates
+-- 2 to 13; 14 is with the plates
+abbrev causesOf : Sheet → Causes
+causesOf (malformed line) = []
+causesOf (endplate s plates) = endplateCauses s
+causesOf (blindFlange s plates) = blindFlangeCauses s
 
-abbrev formerBlindFlange : BlindFlangeSheet → List ℕ → Answer
-formerBlindFlange s plates = fromPlates (blindFlangeUnless (firstCause (former (s .od) (blindFlangeCauses s))) s) plates
+-- this being the first cause, or 0 for none
+abbrev answerFrom : Sheet → ℕ → Answer
+answerFrom (malformed line) cause = Refused 1 line
+answerFrom (endplate s plates) cause = fromPlates (endplateUnless cause s) plates
+answerFrom (blindFlange s plates) cause = fromPlates (blindFlangeUnless cause s) plates
 
-abbrev formerAnswered : Sheet → Answer
-formerAnswered (malformed line) = Refused 1 line
-formerAnswered (endplate s plates) = formerEndplate s plates
-formerAnswered (blindFlange s plates) = formerBlindFlange s plates
+present : (s : Sheet) → answerFrom s (firstCause (causesOf s)) ≡ answered s
+unfolding endplateAnswer endplateSizing blindFlangeAnswer blindFlangeSizing
+present (malformed line) = refl
+present (endplate s plates) = refl
+present (blindFlange s plates) = refl
 
-abbrev formerAnswer : List ℕ → Answer
-formerAnswer text = formerAnswered (sheetOf text)
+-- ---- with 20000 as the greatest diameter: a row more, by which 6 refuses over 20000 too
 
--- ---- cause 6: below 500, over 20000; now below 500, over 30000
+abbrev formerCauses : Sheet → Causes
+formerCauses s = (6, ltb 20000 (diameterOf s) ∷ []) ∷ causesOf s
 
-abbrev Six : Causes → ℕ → ℕ → Type 0
-Six causes greatest diameter = any (testsOf causes 6) ≡ (ltb diameter 500 || ltb greatest diameter)
+abbrev formerAnswer : Sheet → Answer
+formerAnswer s = answerFrom s (firstCause (formerCauses s))
 
-former-six : (d : ℕ) (cs : Causes) → Six cs 30000 d → Six (former d cs) 20000 d
-former-six d cs e =
-    row-tests 6 (ltb 20000 d ∷ []) cs 6
-    ∙ ap (λ (others : Bool). ltb 20000 d || others) e
+-- cause 6 is below 500, or over the greatest diameter: 30000 now, 20000 then
+abbrev Six : Causes → ℕ → Sheet → Type 0
+Six causes greatest s = let d = diameterOf s in any (testsOf causes 6) ≡ (ltb d 500 || ltb greatest d)
+
+former-six : (s : Sheet) → Six (causesOf s) 30000 s → Six (formerCauses s) 20000 s
+former-six s now =
+    let d = diameterOf s in
+    row-tests 6 (ltb 20000 d ∷ []) (causesOf s) 6
+    ∙ ap (λ (others : Bool). ltb 20000 d || others) now
     ∙ by-test (ltb d 500) (ltb 20000 d) (ltb 30000 d) (λ t. lt-ltb 20000 d (omega (arith, ltb-true 30000 d t)))
   where
     by-test : (a b c : Bool) → (c ≡ true → b ≡ true) → (b || (a || c)) ≡ (a || b)
@@ -66,88 +80,67 @@ former-six d cs e =
     by-test false false true h = sym (h refl)
     by-test false false false h = refl
 
-endplate-six :
-    (s : EndplateSheet) →
-    Six (endplateCauses s) 30000 (s .diameter) × Six (former (s .diameter) (endplateCauses s)) 20000 (s .diameter)
+endplate-six : (s : EndplateSheet) (plates : List ℕ) → Six (causesOf (endplate s plates)) 30000 (endplate s plates)
 unfolding endplateCauses
-endplate-six s = (refl, former-six (s .diameter) (endplateCauses s) refl)
+endplate-six s plates = refl
 
-flange-six :
-    (s : BlindFlangeSheet) →
-    Six (blindFlangeCauses s) 30000 (s .od) × Six (former (s .od) (blindFlangeCauses s)) 20000 (s .od)
+flange-six : (s : BlindFlangeSheet) (plates : List ℕ) → Six (causesOf (blindFlange s plates)) 30000 (blindFlange s plates)
 unfolding blindFlangeCauses flangeLimits boltsCauses
-flange-six s = (refl, former-six (s .od) (blindFlangeCauses s) refl)
+flange-six s plates = refl
 
--- ---- of numbers: the same cause, the same answer
+-- ---- what was no refusal 6 is kept
 
-endplate-same :
-    (s : EndplateSheet) (plates : List ℕ) →
-    firstCause (former (s .diameter) (endplateCauses s)) ≡ firstCause (endplateCauses s) →
-    formerEndplate s plates ≡ endplateAnswer s plates
-unfolding endplateAnswer endplateSizing
-endplate-same s plates e = ap (λ (cause : ℕ). fromPlates (endplateUnless cause s) plates) e
+same-cause : (s : Sheet) → firstCause (formerCauses s) ≡ firstCause (causesOf s) → formerAnswer s ≡ answered s
+same-cause s e = ap (answerFrom s) e ∙ present s
 
-flange-same :
-    (s : BlindFlangeSheet) (plates : List ℕ) →
-    firstCause (former (s .od) (blindFlangeCauses s)) ≡ firstCause (blindFlangeCauses s) →
-    formerBlindFlange s plates ≡ blindFlangeAnswer s plates
-unfolding blindFlangeAnswer blindFlangeSizing
-flange-same s plates e = ap (λ (cause : ℕ). fromPlates (blindFlangeUnless cause s) plates) e
+kept-if : (s : Sheet) → causeOf (answerFrom s 6) ≡ 6 → causeOf (formerAnswer s) ≢ 6 → formerAnswer s ≡ answered s
+kept-if s six n = same-cause s (row-more 6 _ (causesOf s) (λ e. n (ap (λ (k : ℕ). causeOf (answerFrom s k)) e ∙ six)))
 
--- what was no refusal 6 is kept
+kept : (s : Sheet) → causeOf (formerAnswer s) ≢ 6 → formerAnswer s ≡ answered s
+kept (malformed line) n = refl
+kept (endplate s plates) n = kept-if (endplate s plates) refl n
+kept (blindFlange s plates) n = kept-if (blindFlange s plates) refl n
+
+-- of the numeric calls
 endplate-kept :
     (s : EndplateSheet) (plates : List ℕ) →
-    causeOf (formerEndplate s plates) ≢ 6 →
-    formerEndplate s plates ≡ endplateAnswer s plates
-endplate-kept s plates n = endplate-same s plates (row-more 6 _ (endplateCauses s) (λ e. n (rw e)))
+    let former = formerAnswer (endplate s plates) in
+    causeOf former ≢ 6 → former ≡ endplateAnswer s plates
+endplate-kept s plates = kept (endplate s plates)
 
 flange-kept :
     (s : BlindFlangeSheet) (plates : List ℕ) →
-    causeOf (formerBlindFlange s plates) ≢ 6 →
-    formerBlindFlange s plates ≡ blindFlangeAnswer s plates
-flange-kept s plates n = flange-same s plates (row-more 6 _ (blindFlangeCauses s) (λ e. n (rw e)))
+    let former = formerAnswer (blindFlange s plates) in
+    causeOf former ≢ 6 → former ≡ blindFlangeAnswer s plates
+flange-kept s plates = kept (blindFlange s plates)
 
--- of a diameter that both limits take, or both refuse, every answer is, a refusal 6 too
-abbrev Alike : ℕ → Type 0
-Alike diameter = ltb 20000 diameter ≡ ltb 30000 diameter
+-- of texts, byte for byte
+abbrev formerReport : List ℕ → List ℕ
+formerReport text = reportText (formerAnswer (sheetOf text))
 
-same-cause : (d : ℕ) (cs : Causes) → Six cs 30000 d → Alike d → firstCause (former d cs) ≡ firstCause cs
-same-cause d cs six e =
-    row-idle 6 _ cs (λ t. six ∙ ap (λ (over : Bool). ltb d 500 || over) (sym e ∙ t) ∙ or-true (ltb d 500))
-
-endplate-otherwise :
-    (s : EndplateSheet) (plates : List ℕ) → Alike (s .diameter) → formerEndplate s plates ≡ endplateAnswer s plates
-endplate-otherwise s plates e = endplate-same s plates (same-cause (s .diameter) _ (endplate-six s .0) e)
-
-flange-otherwise :
-    (s : BlindFlangeSheet) (plates : List ℕ) → Alike (s .od) → formerBlindFlange s plates ≡ blindFlangeAnswer s plates
-flange-otherwise s plates e = flange-same s plates (same-cause (s .od) _ (flange-six s .0) e)
-
--- ---- of texts: the reports, byte for byte
-
-answered-kept : (s : Sheet) → causeOf (formerAnswered s) ≢ 6 → formerAnswered s ≡ answered s
-answered-kept (malformed line) n = refl
-answered-kept (endplate s plates) n = endplate-kept s plates n
-answered-kept (blindFlange s plates) n = flange-kept s plates n
-
-report-kept : (text : List ℕ) → causeOf (formerAnswer text) ≢ 6 → reportText (formerAnswer text) ≡ reportFor text
+report-kept : (text : List ℕ) → causeOf (formerAnswer (sheetOf text)) ≢ 6 → formerReport text ≡ reportFor text
 unfolding answerOf
-report-kept text n = ap reportText (answered-kept (sheetOf text) n)
+report-kept text n = ap reportText (kept (sheetOf text) n)
 
--- dia or od; a malformed sheet has none
-abbrev diameterOf : Sheet → ℕ
-diameterOf (malformed line) = 0
-diameterOf (endplate s plates) = s .diameter
-diameterOf (blindFlange s plates) = s .od
+-- ---- and so is every answer, a refusal 6 too, where both limits take the diameter or both refuse it
 
-answered-otherwise : (s : Sheet) → Alike (diameterOf s) → formerAnswered s ≡ answered s
-answered-otherwise (malformed line) e = refl
-answered-otherwise (endplate s plates) e = endplate-otherwise s plates e
-answered-otherwise (blindFlange s plates) e = flange-otherwise s plates e
+abbrev Alike : Sheet → Type 0
+Alike s = ltb 20000 (diameterOf s) ≡ ltb 30000 (diameterOf s)
 
-report-otherwise : (text : List ℕ) → Alike (diameterOf (sheetOf text)) → reportText (formerAnswer text) ≡ reportFor text
+alike-if : (s : Sheet) → Six (causesOf s) 30000 s → Alike s → formerAnswer s ≡ answered s
+alike-if s six e =
+    let below = ltb (diameterOf s) 500 in
+    same-cause s
+    (row-idle 6 _ (causesOf s) (λ t. six ∙ ap (λ (over : Bool). below || over) (sym e ∙ t) ∙ or-true below))
+
+alike-kept : (s : Sheet) → Alike s → formerAnswer s ≡ answered s
+alike-kept (malformed line) e = refl
+alike-kept (endplate s plates) e = alike-if (endplate s plates) (endplate-six s plates) e
+alike-kept (blindFlange s plates) e = alike-if (blindFlange s plates) (flange-six s plates) e
+
+report-alike : (text : List ℕ) → Alike (sheetOf text) → formerReport text ≡ reportFor text
 unfolding answerOf
-report-otherwise text e = ap reportText (answered-otherwise (sheetOf text) e)
+report-alike text e = ap reportText (alike-kept (sheetOf text) e)
 
 -- ---- an end of 3,000 mm under 0.1 N/mm²: refused by 6 then, answered now
 
@@ -163,7 +156,7 @@ storageEnd = record {
 }
 
 newly-answered :
-    (formerEndplate storageEnd (5000 ∷ []) ≡ Refused 6 0)
+    (formerAnswer (endplate storageEnd (5000 ∷ [])) ≡ Refused 6 0)
     × (reportOf (endplateAnswer storageEnd (5000 ∷ [])) ≡ 108 ∷ 4565 ∷ 4665 ∷ 5000 ∷ [])
 unfolding storageEnd column designStress ceilDiv wholeRootBy leastRoot leastRootOver endplateStress endplateThickness
     endplateFigures endplateCauses firstOf endplateSizing smallestServing endplateAnswer

@@ -37,7 +37,7 @@ temperatureRefused temperature = ltb 300 temperature ∷ []
 abbrev pub noStress : ℕ → Tests
 noStress stress = eqb stress 0 ∷ []
 
--- 6: dia or od below 500 or over 30000
+-- 6: dia or od below 500 or over 30000 (document 02, R-2)
 abbrev pub diameterRefused : ℕ → Tests
 diameterRefused diameter = ltb diameter 500 ∷ ltb 30000 diameter ∷ []
 
