@@ -26,7 +26,7 @@ static unsigned long endplate(uint32_t place)
 static unsigned long blind_flange(uint32_t place)
 {
     return (unsigned long)scantling_blind_flange(
-        1, 150, 1000, 100, 5000, 100, 200, 110, 5600, 20, 2250, 16, 100, 100, plates, sizeof plates, place);
+        1, 150, 1000, 100, 5000, 100, 0, 0, 200, 110, 5600, 20, 2250, 16, 100, 100, plates, sizeof plates, place);
 }
 
 int main(void)

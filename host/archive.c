@@ -13,8 +13,8 @@ static uint64_t blind_flange(const uint32_t n[], const uint8_t *plates, size_t p
 {
     return scantling_blind_flange(
         n[BLIND_MATERIAL], n[BLIND_TEMPERATURE], n[BLIND_PRESSURE], n[BLIND_ALLOWANCE], n[BLIND_OD], n[BLIND_WIDTH],
-        n[BLIND_M], n[BLIND_Y], n[BLIND_CIRCLE], n[BLIND_BOLT], n[BLIND_ROOT], n[BLIND_COUNT], n[BLIND_SA],
-        n[BLIND_SB], plates, plates_length, place);
+        n[BLIND_RIB], n[BLIND_RIB_WIDTH], n[BLIND_M], n[BLIND_Y], n[BLIND_CIRCLE], n[BLIND_BOLT], n[BLIND_ROOT],
+        n[BLIND_COUNT], n[BLIND_SA], n[BLIND_SB], plates, plates_length, place);
 }
 
 const struct archive_call archive_calls[PARTS] = {

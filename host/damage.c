@@ -250,8 +250,8 @@ static void space_about_equals(struct rng *rng, struct text *text)
 static void other_line(struct rng *rng, struct text *text)
 {
     static const char *const lines[] = {
-        "part=end\n", "part=blind\n", "form=c\n", "shell=1\n", "dia=5000\n", "od=5000\n", "width=100\n", "sb=100\n",
-        "temp=150\n", "plates=2500\n", "refused=1\n", "\n", "=\n", "temp\n"};
+        "part=end\n", "part=blind\n", "form=c\n", "shell=1\n", "dia=5000\n", "od=5000\n", "width=100\n", "rib=0\n",
+        "ribw=0\n", "sb=100\n", "temp=150\n", "plates=2500\n", "refused=1\n", "\n", "=\n", "temp\n"};
     struct line line = any_line(rng, text);
     splice(text, line.start, rng_one_in(rng, 2) ? line.length : 0, "", 0);
     insert(text, line.start, lines[rng_below(rng, sizeof lines / sizeof lines[0])]);
@@ -260,11 +260,19 @@ static void other_line(struct rng *rng, struct text *text)
 /* The key of a line lengthened, shortened or taken from another line. */
 static void other_key(struct rng *rng, struct text *text)
 {
-    static const char *const keys[] = {"t", "plate", "plates", "material", "s", "sa", "wm1", "", "temp", "m"};
+    static const char *const keys[] = {"t", "plate", "plates", "material", "s", "sa", "wm1", "", "temp", "m", "rib", "ribw"};
     struct line line = any_line(rng, text);
     size_t cut = line.length > 1 ? rng_below(rng, 2) : 0;
     splice(text, line.start, cut, "", 0);
     insert(text, line.start, keys[rng_below(rng, sizeof keys / sizeof keys[0])]);
+}
+
+/* The two lines after the width gone, with which a blind sheet has no rib and ribw. */
+static void no_rib_lines(struct rng *rng, struct text *text)
+{
+    struct line rib = line_at(text, 7), rib_width = line_at(text, 8);
+    (void)rng;
+    splice(text, rib.start, rib.length + rib_width.length, "", 0);
 }
 
 static void trailing_bytes(struct rng *rng, struct text *text)
@@ -290,8 +298,8 @@ static void random_bytes(struct rng *rng, struct text *text)
 static void (*const damages[])(struct rng *, struct text *) = {
     change_byte, drop_byte, double_byte, drop_line, double_line, move_line, swap_lines, one_crlf, all_crlf,
     drop_last_lf, cut_short, many_plates, faulty_plates, long_number, put_before_value, put_after_value, empty_value,
-    zero_value, other_word, foreign_byte, upper_case, space_about_equals, other_line, other_key, trailing_bytes,
-    no_text, random_bytes, long_value};
+    zero_value, other_word, foreign_byte, upper_case, space_about_equals, other_line, other_key, no_rib_lines,
+    trailing_bytes, no_text, random_bytes, long_value};
 const uint32_t damage_count = sizeof damages / sizeof damages[0];
 
 void damage_text(struct rng *rng, uint32_t damage, struct text *text)

@@ -1,4 +1,4 @@
-/* Document 01, "Numbers to hold": what is asked, and the one figure the document prints for it. */
+/* Document 01, "Numbers to hold", and a rib worked by hand: what is asked, and the one figure of it that is known. */
 #ifndef KNOWN_H
 #define KNOWN_H
 

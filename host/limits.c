@@ -4,8 +4,8 @@
 #define BLIND(number, value) {PART_BLIND, BLIND_##number, FIXED, value}
 #define RULE(number, rule) {PART_BLIND, BLIND_##number, rule, 0}
 
-/* In the order of the numbers. The temperatures are the columns of Table 1, 126 the width from which b has its root, 20000
-   the diameter up to which R-2 keeps every report. */
+/* In the order of the numbers. The temperatures are the columns of Table 1, 126 the width from which b has its root, of the
+   ring and of the rib, 20000 the diameter up to which R-2 keeps every report. */
 const struct limit limits[] = {
     END(FORM, 1), END(FORM, 3),
     END(MATERIAL, 1), END(MATERIAL, 7), END(MATERIAL, 9), END(MATERIAL, 11),
@@ -23,6 +23,8 @@ const struct limit limits[] = {
     BLIND(ALLOWANCE, 1000),
     BLIND(OD, 500), BLIND(OD, 20000), BLIND(OD, 30000),
     BLIND(WIDTH, 100), BLIND(WIDTH, 126), BLIND(WIDTH, 500), RULE(WIDTH, WIDTH_AT_OD),
+    BLIND(RIB, 1), BLIND(RIB, 40000), RULE(RIB, RIB_ALONE),
+    BLIND(RIB_WIDTH, 1), BLIND(RIB_WIDTH, 126), BLIND(RIB_WIDTH, 500), RULE(RIB_WIDTH, RIB_WIDTH_ALONE),
     BLIND(M, 650), BLIND(Y, 1800),
     RULE(CIRCLE, CIRCLE_AT_OD), RULE(CIRCLE, CIRCLE_AT_G),
     BLIND(BOLT, 12), BLIND(BOLT, 76),
@@ -46,6 +48,14 @@ static struct wish wish_for(struct rng *rng, const struct limit *limit, int step
         od = rng_between(rng, 600, 2000); /* so that the width is 500 at most */
         wish.numbers[BLIND_OD] = od;
         wish.numbers[BLIND_WIDTH] = (int64_t)od / 4 + step;
+        break;
+    case RIB_ALONE:
+        wish.numbers[BLIND_RIB] = 1 + step;
+        wish.numbers[BLIND_RIB_WIDTH] = 0;
+        break;
+    case RIB_WIDTH_ALONE:
+        wish.numbers[BLIND_RIB] = 0;
+        wish.numbers[BLIND_RIB_WIDTH] = 1 + step;
         break;
     case SA_AT_SB:
         wish.numbers[BLIND_SB] = rng_between(rng, 1, 100); /* so that sa is 400 at most */
@@ -86,7 +96,7 @@ void draw_limit(struct rng *rng, const struct limit *limit, int step, struct que
 {
     const struct wish wish = wish_for(rng, limit, step);
     draw_numbers(rng, limit->part, &wish, question);
-    if (limit->rule != FIXED && limit->rule != WIDTH_AT_OD)
+    if (wish.numbers[limit->number] == FREE)
         question->numbers[limit->number] = (uint32_t)limit_value(limit->rule, question->numbers) + (uint32_t)step;
 }
 

@@ -8,6 +8,8 @@
 enum limit_rule {
     FIXED,             /* given */
     WIDTH_AT_OD,       /* 4 width = od */
+    RIB_ALONE,         /* rib from 1 on while ribw is 0 */
+    RIB_WIDTH_ALONE,   /* ribw from 1 on while rib is 0 */
     ROOT_AT_BOLT,      /* 100 root = 785 bolt^2 */
     SA_AT_SB,          /* sa = 4 sb */
     CIRCLE_AT_OD,      /* C = od + 10 bolt */

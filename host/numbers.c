@@ -111,6 +111,16 @@ static void draw_bolts(struct rng *rng, const int64_t *wish, uint32_t *n)
         n[BLIND_ROOT] = pick(rng, wish[BLIND_ROOT], least > largest ? largest : least > 0 ? least : 1, largest);
 }
 
+/* Half the flanges have no rib. A wish of one of its numbers tells of the other whether it is 0. */
+static void draw_rib(struct rng *rng, const int64_t *wish, uint32_t *n)
+{
+    const int64_t wished = wish[BLIND_RIB] != FREE ? wish[BLIND_RIB] : wish[BLIND_RIB_WIDTH];
+    const uint32_t ribbed = wished != FREE ? wished != 0 : rng_below(rng, 2);
+    const uint32_t longest = rng_one_in(rng, 4) ? 40000 : n[BLIND_OD];
+    n[BLIND_RIB] = pick(rng, wish[BLIND_RIB], ribbed, ribbed * longest);
+    n[BLIND_RIB_WIDTH] = pick(rng, wish[BLIND_RIB_WIDTH], ribbed, ribbed * (rng_one_in(rng, 4) ? 126 : 500));
+}
+
 /* A bolt circle fits between od + 10 bolt and 3 G / 2 from an od of 540 on. */
 static void draw_blind_flange(struct rng *rng, const int64_t *wish, uint32_t *n)
 {
@@ -120,6 +130,7 @@ static void draw_blind_flange(struct rng *rng, const int64_t *wish, uint32_t *n)
     n[BLIND_ALLOWANCE] = pick(rng, wish[BLIND_ALLOWANCE], 0, 1000);
     n[BLIND_OD] = pick(rng, wish[BLIND_OD], 540, rng_one_in(rng, 2) ? 4000 : 30000);
     n[BLIND_WIDTH] = pick(rng, wish[BLIND_WIDTH], 100, n[BLIND_OD] < 2000 ? n[BLIND_OD] / 4 : 500);
+    draw_rib(rng, wish, n);
     n[BLIND_M] = pick(rng, wish[BLIND_M], 0, 650);
     n[BLIND_Y] = pick(rng, wish[BLIND_Y], 0, 1800);
     const uint32_t furthest = (uint32_t)(3 * paper_gasket(n).reaction_diameter / 2);

@@ -15,19 +15,20 @@ enum part { PART_NONE, PART_END, PART_BLIND, PARTS };
 /* The numbers of an endplate and of a blind flange, in the order of the sheet's lines. */
 enum { END_FORM, END_MATERIAL, END_SHELL, END_TEMPERATURE, END_PRESSURE, END_DIAMETER, END_ALLOWANCE, END_NUMBERS };
 enum {
-    BLIND_MATERIAL, BLIND_TEMPERATURE, BLIND_PRESSURE, BLIND_ALLOWANCE, BLIND_OD, BLIND_WIDTH, BLIND_M, BLIND_Y,
-    BLIND_CIRCLE, BLIND_BOLT, BLIND_ROOT, BLIND_COUNT, BLIND_SA, BLIND_SB, BLIND_NUMBERS
+    BLIND_MATERIAL, BLIND_TEMPERATURE, BLIND_PRESSURE, BLIND_ALLOWANCE, BLIND_OD, BLIND_WIDTH, BLIND_RIB,
+    BLIND_RIB_WIDTH, BLIND_M, BLIND_Y, BLIND_CIRCLE, BLIND_BOLT, BLIND_ROOT, BLIND_COUNT, BLIND_SA, BLIND_SB,
+    BLIND_NUMBERS
 };
 
 /* Forms a, c, d of 8.3.4 as the numeric call names them. */
 enum { FORM_A = 1, FORM_C = 2, FORM_D = 3 };
 
-/* Causes of refusal. Counts by cause have CAUSES places, one more than the greatest. */
+/* Causes of refusal; 16 is none. Counts by cause have CAUSES places, one more than the greatest. */
 enum {
     CAUSE_NONE = 0, CAUSE_LINE = 1, CAUSE_MATERIAL = 2, CAUSE_PRESSURE = 3, CAUSE_TEMPERATURE = 4,
     CAUSE_DESIGN_STRESS = 5, CAUSE_DIAMETER = 6, CAUSE_ALLOWANCE = 7, CAUSE_WIDTH = 8, CAUSE_GASKET = 9,
     CAUSE_BOLTS = 10, CAUSE_BOLT_STRESS = 11, CAUSE_CIRCLE = 12, CAUSE_OVERLOAD = 13, CAUSE_PLATE = 14,
-    CAUSE_SPACE = 15, CAUSES
+    CAUSE_SPACE = 15, CAUSE_RIB = 17, CAUSES
 };
 
 /* Places of the figures. Those from 2 on stand in report order; a place without a figure holds 0. */
@@ -55,12 +56,13 @@ uint64_t paper_least_quotient(u128 a, u128 b);
 /* The least x with a * x * x >= b, for a of 1 or more, both below 2^64; other numbers end the program. */
 uint64_t paper_least_root(u128 a, u128 b);
 
-/* Gasket and loads of a blind flange that meets none of the causes 2 to 9. */
+/* Gasket and loads of a blind flange that meets none of the causes 2 to 9 and 17. */
 struct paper_gasket {
-    u128 effective_width;   /* b */
-    u128 reaction_diameter; /* G */
-    u128 operating_load;    /* Wm1 */
-    u128 seating_load;      /* Wm2 */
+    u128 effective_width;     /* b */
+    u128 rib_effective_width; /* b of the rib, 0 without one */
+    u128 reaction_diameter;   /* G */
+    u128 operating_load;      /* Wm1 */
+    u128 seating_load;        /* Wm2 */
 };
 struct paper_gasket paper_gasket(const uint32_t n[BLIND_NUMBERS]);
 
@@ -97,7 +99,7 @@ struct paper_answer {
     uint64_t figures[PAPER_PLACES];
 };
 
-/* The report or the refusal (causes 1 to 14) of a sheet, in PAPER_REPORT_ROOM bytes. Returns its length. */
+/* The report or the refusal (causes 1 to 14 and 17) of a sheet, in PAPER_REPORT_ROOM bytes. Returns its length. */
 size_t paper_report(const uint8_t *text, size_t length, uint8_t *report, struct paper_answer *answer);
 
 /* The same in a lent space, which is written only if the report fits it. */

@@ -42,16 +42,17 @@ struct exact_flange {
     u128 flange_load;       /* V, exact W times 2 * 10^11 * sb */
 };
 
-/* seating_load is V2, exact Wm2 times 10^6. */
+/* seating_load is V2, exact Wm2 times 10^6. The rib's parts are 2 * b * rib * m * P and b * rib * y. */
 static struct exact_flange exact_flange(const uint32_t n[])
 {
     const struct paper_gasket gasket = paper_gasket(n);
     const u128 effective_width = gasket.effective_width, reaction_diameter = gasket.reaction_diameter;
     const u128 bolt_area = (u128)n[BLIND_COUNT] * n[BLIND_ROOT];
     const u128 m = n[BLIND_M], y = n[BLIND_Y], sa = n[BLIND_SA], sb = n[BLIND_SB], pressure = n[BLIND_PRESSURE];
+    const u128 rib_area = gasket.rib_effective_width * n[BLIND_RIB]; /* thousandths of mm2 */
     const u128 operating_load = 78500 * reaction_diameter * reaction_diameter * pressure +
-                                628 * effective_width * reaction_diameter * m * pressure;
-    const u128 seating_load = 314 * effective_width * reaction_diameter * y;
+                                628 * effective_width * reaction_diameter * m * pressure + 200 * rib_area * m * pressure;
+    const u128 seating_load = 314 * effective_width * reaction_diameter * y + 100 * rib_area * y;
     const u128 operating = 10 * operating_load * sa, seating = TEN_5 * seating_load * sb;
     struct exact_flange flange;
     flange.design_stress = paper_design_stress(n[BLIND_MATERIAL], n[BLIND_TEMPERATURE]);

@@ -1,4 +1,4 @@
-/* Document 01: design stress, endplates, blind flanges, plates, and the causes 2 to 14. */
+/* Documents 01 and 02: design stress, endplates, blind flanges, plates, and the causes 2 to 14 and 17. */
 #include "paper.h"
 
 #include <stdlib.h>
@@ -87,21 +87,36 @@ static uint64_t endplate_thickness(const uint32_t n[])
 
 /* ---- Blind flanges ---- */
 
-/* From od, n (width), m, y and P. root_width is k, tenths of a mm. */
+/* k, tenths of a mm, from n, the width of the ring or of the rib. */
+static u128 root_width(u128 width)
+{
+    return paper_least_root(1000, 31752 * width);
+}
+
+/* b, likewise. */
+static u128 effective_width(u128 width)
+{
+    return width <= 126 ? 5 * width : 10 * root_width(width);
+}
+
+/*
+ * From od, n (width), rib, ribw, m, y and P. The rib's part of Wm1 is 2 * b * rib * m * P / 10^8 newtons, that of Wm2
+ * b * rib * y / 10^4.
+ */
 struct paper_gasket paper_gasket(const uint32_t n[BLIND_NUMBERS])
 {
     const u128 od = n[BLIND_OD], width = n[BLIND_WIDTH], m = n[BLIND_M], y = n[BLIND_Y], pressure = n[BLIND_PRESSURE];
-    const u128 root_width = paper_least_root(1000, 31752 * width);
-    const u128 effective_width = width <= 126 ? 5 * width : 10 * root_width;
-    const u128 reaction_diameter = width <= 126 ? od - width : od - 2 * root_width;
+    const u128 b = effective_width(width), reaction_diameter = width <= 126 ? od - width : od - 2 * root_width(width);
+    const u128 rib_b = effective_width(n[BLIND_RIB_WIDTH]), rib = n[BLIND_RIB];
     struct paper_gasket gasket;
-    gasket.effective_width = effective_width;
+    gasket.effective_width = b;
+    gasket.rib_effective_width = rib_b;
     gasket.reaction_diameter = reaction_diameter;
     gasket.operating_load = paper_least_quotient(
         UINT64_C(10000000000),
-        78500 * reaction_diameter * reaction_diameter * pressure +
-            628 * effective_width * reaction_diameter * m * pressure);
-    gasket.seating_load = paper_least_quotient(1000000, 314 * effective_width * reaction_diameter * y);
+        78500 * reaction_diameter * reaction_diameter * pressure + 628 * b * reaction_diameter * m * pressure +
+            100 * (2 * rib_b * rib * m * pressure));
+    gasket.seating_load = paper_least_quotient(1000000, 314 * b * reaction_diameter * y + 100 * (rib_b * rib * y));
     return gasket;
 }
 
@@ -171,7 +186,7 @@ size_t paper_plates(const uint8_t *bytes, size_t length, uint32_t *plates, size_
     return count;
 }
 
-/* ---- Causes 2 to 14, rising ---- */
+/* ---- Causes 2 to 14 in rising order, 17 right after 8 ---- */
 
 static int is_plate_material(uint32_t material)
 {
@@ -205,12 +220,15 @@ static int endplate_cause(const uint32_t n[])
         n[END_PRESSURE], n[END_TEMPERATURE], paper_endplate_design_stress(n), n[END_DIAMETER], n[END_ALLOWANCE]);
 }
 
-/* Causes 8 and 9. */
+/* Causes 8, 17 and 9. */
 static int gasket_cause(const uint32_t n[])
 {
     const u128 od = n[BLIND_OD], width = n[BLIND_WIDTH], m = n[BLIND_M], y = n[BLIND_Y];
+    const uint32_t rib = n[BLIND_RIB], rib_width = n[BLIND_RIB_WIDTH];
     if (width < 100 || width > 500 || 4 * width > od)
         return CAUSE_WIDTH;
+    if ((rib == 0 && rib_width > 0) || (rib > 0 && rib_width == 0) || rib > 40000 || rib_width > 500)
+        return CAUSE_RIB;
     if (m > 650 || y > 1800)
         return CAUSE_GASKET;
     return CAUSE_NONE;
@@ -236,7 +254,7 @@ static int load_cause(const uint32_t n[], const struct paper_gasket *gasket)
     return bolts_sufficient(n, gasket) ? CAUSE_NONE : CAUSE_OVERLOAD;
 }
 
-/* Causes 2 to 13. gasket is set where they reach 12. */
+/* Causes 2 to 13 and 17. gasket is set where they reach 12. */
 static int blind_flange_cause(const uint32_t n[], struct paper_gasket *gasket)
 {
     int cause = is_plate_material(n[BLIND_MATERIAL]) ? CAUSE_NONE : CAUSE_MATERIAL;

@@ -8,9 +8,9 @@ static const char *const end_keys[END_NUMBERS] = {
     [END_PRESSURE] = "pressure", [END_DIAMETER] = "dia", [END_ALLOWANCE] = "allow"};
 static const char *const blind_keys[BLIND_NUMBERS] = {
     [BLIND_MATERIAL] = "material", [BLIND_TEMPERATURE] = "temp", [BLIND_PRESSURE] = "pressure",
-    [BLIND_ALLOWANCE] = "allow", [BLIND_OD] = "od", [BLIND_WIDTH] = "width", [BLIND_M] = "m", [BLIND_Y] = "y",
-    [BLIND_CIRCLE] = "circle", [BLIND_BOLT] = "bolt", [BLIND_ROOT] = "root", [BLIND_COUNT] = "count",
-    [BLIND_SA] = "sa", [BLIND_SB] = "sb"};
+    [BLIND_ALLOWANCE] = "allow", [BLIND_OD] = "od", [BLIND_WIDTH] = "width", [BLIND_RIB] = "rib",
+    [BLIND_RIB_WIDTH] = "ribw", [BLIND_M] = "m", [BLIND_Y] = "y", [BLIND_CIRCLE] = "circle", [BLIND_BOLT] = "bolt",
+    [BLIND_ROOT] = "root", [BLIND_COUNT] = "count", [BLIND_SA] = "sa", [BLIND_SB] = "sb"};
 
 #define REFUSAL_KEYS [PLACE_CAUSE] = "refused", [PLACE_FIGURE] = "place"
 static const char *const refusal_keys[] = {REFUSAL_KEYS};

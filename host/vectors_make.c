@@ -196,14 +196,16 @@ static void put_causes(void (*put_it)(const struct question *))
         [END_DIAMETER] = 499, [END_ALLOWANCE] = 1001};
     static const uint32_t blind[BLIND_NUMBERS] = {
         [BLIND_MATERIAL] = 7, [BLIND_TEMPERATURE] = 301, [BLIND_PRESSURE] = 2001, [BLIND_ALLOWANCE] = 1001,
-        [BLIND_OD] = 30001, [BLIND_WIDTH] = 501, [BLIND_M] = 651, [BLIND_Y] = 1801, [BLIND_CIRCLE] = 0,
-        [BLIND_BOLT] = 77, [BLIND_ROOT] = 0, [BLIND_COUNT] = 101, [BLIND_SA] = 0, [BLIND_SB] = 401};
+        [BLIND_OD] = 30001, [BLIND_WIDTH] = 501, [BLIND_RIB] = 40001, [BLIND_RIB_WIDTH] = 0, [BLIND_M] = 651,
+        [BLIND_Y] = 1801, [BLIND_CIRCLE] = 0, [BLIND_BOLT] = 77, [BLIND_ROOT] = 0, [BLIND_COUNT] = 101, [BLIND_SA] = 0,
+        [BLIND_SB] = 401};
     static const struct mend end_mends[] = {
         {END_FORM, FORM_C}, {END_MATERIAL, 6}, {END_SHELL, 1}, {END_PRESSURE, 1000}, {END_TEMPERATURE, 225},
         {END_MATERIAL, 1}, {END_DIAMETER, 5000}, {END_ALLOWANCE, 100}};
     static const struct mend blind_mends[] = {
         {BLIND_MATERIAL, 6}, {BLIND_PRESSURE, 1000}, {BLIND_TEMPERATURE, 225}, {BLIND_MATERIAL, 1}, {BLIND_OD, 5000},
-        {BLIND_ALLOWANCE, 100}, {BLIND_WIDTH, 100}, {BLIND_M, 200}, {BLIND_Y, 110}, {BLIND_BOLT, 20}, {BLIND_ROOT, 1},
+        {BLIND_ALLOWANCE, 100}, {BLIND_WIDTH, 100}, {BLIND_RIB, 4900}, {BLIND_RIB_WIDTH, 501},
+        {BLIND_RIB_WIDTH, 100}, {BLIND_M, 200}, {BLIND_Y, 110}, {BLIND_BOLT, 20}, {BLIND_ROOT, 1},
         {BLIND_COUNT, 16}, {BLIND_SA, 100}, {BLIND_SB, 100}, {BLIND_CIRCLE, 5600}, {BLIND_ROOT, 2250}};
     put_mends(PART_END, end, end_mends, COUNT(end_mends), put_it);
     put_mends(PART_BLIND, blind, blind_mends, COUNT(blind_mends), put_it);
@@ -254,14 +256,22 @@ static void put_drawn(struct rng *rng, int count, int wild, uint32_t most, void 
 
 /* ---- Sheets alone ---- */
 
+struct change {
+    const char *part, *to;
+};
+
 /* One sheet with a part of it changed, in the signs of a line. */
-static void put_changes(void)
+static void put_changes(const char *sheet, const struct change *changes, size_t count)
 {
-    static const char sheet[] =
-        "part=end/form=a/material=1/shell=0/temp=150/pressure=1000/dia=5000/allow=0/plates=2500/";
-    static const struct {
-        const char *part, *change;
-    } changes[] = {
+    for (size_t i = 0; i < count; i++) {
+        const char *at = strstr(sheet, changes[i].part), *after = at + strlen(changes[i].part);
+        printf("%d %d %.*s%s%s\n", (int)KIND_SHEET, VECTOR_ROOM, (int)(at - sheet), sheet, changes[i].to, after);
+    }
+}
+
+static void put_end_changes(void)
+{
+    static const struct change changes[] = {
         {"2500/", "2500"}, {"2500/", "2500//"}, {"2500/", "2500/^"}, {"2500/", "2500/~"}, {"2500/", "2500\\/"},
         {"2500/", "2500/plates=2500/"}, {"2500", ""}, {"2500", "0"}, {"2500", "02500"}, {"2500", "999999"},
         {"2500", "1000000"}, {"2500", ",2500"}, {"2500", "2500,"}, {"2500", "2500,,2600"}, {"2500", "2600, 2500"},
@@ -275,10 +285,28 @@ static void put_changes(void)
         {"form=a", "form=A"}, {"form=a", "form=b"}, {"form=a", "form=aa"}, {"form=a", "form="}, {"form=a", "form=1"},
         {"part=end", "part=endplate"}, {"part=end", "part=END"}, {"part=end", "part="}, {"part=end", "part=blind"},
         {"part=end", "~part=end"}, {"part=end/", ""}};
-    for (size_t i = 0; i < COUNT(changes); i++) {
-        const char *at = strstr(sheet, changes[i].part), *after = at + strlen(changes[i].part);
-        printf("%d %d %.*s%s%s\n", (int)KIND_SHEET, VECTOR_ROOM, (int)(at - sheet), sheet, changes[i].change, after);
-    }
+    put_changes(
+        "part=end/form=a/material=1/shell=0/temp=150/pressure=1000/dia=5000/allow=0/plates=2500/", changes,
+        COUNT(changes));
+}
+
+/* The lines of the rib. */
+static void put_rib_changes(void)
+{
+    static const struct change changes[] = {
+        {"rib=4900/ribw=100/", ""}, {"rib=4900/", ""}, {"ribw=100/", ""}, {"rib=4900/ribw", "ribw=100/rib"},
+        {"rib=4900/", "rib=4900/rib=4900/"}, {"ribw=100/", "ribw=100/ribw=100/"}, {"width=100/rib", "rib"},
+        {"rib=4900", "ribw=4900"}, {"ribw=100", "rib=100"}, {"rib=", "Rib="}, {"rib=", "rib"}, {"rib=", "rib =="},
+        {"ribw", "ribwidth"}, {"ribw", "rib w"}, {"rib=4900", "rib="}, {"ribw=100", "ribw="}, {"4900", "04900"},
+        {"rib=4900/ribw=100", "rib=0/ribw=0"}, {"rib=4900/ribw=100", "rib=00/ribw=00"}, {"rib=4900", "rib=0"},
+        {"ribw=100", "ribw=0"}, {"rib=4900", "rib=1"}, {"ribw=100", "ribw=1"}, {"rib=4900", "rib=40000"},
+        {"rib=4900", "rib=40001"}, {"ribw=100", "ribw=126"}, {"ribw=100", "ribw=127"}, {"ribw=100", "ribw=500"},
+        {"ribw=100", "ribw=501"}, {"width=100/rib=4900", "width=99/rib=0"}, {"rib=4900", "rib=999999"},
+        {"ribw=100", "ribw=1000000"}};
+    put_changes(
+        "part=blind/material=1/temp=150/pressure=1000/allow=100/od=5000/width=100/rib=4900/ribw=100/m=200/y=110/"
+        "circle=5600/bolt=20/root=2250/count=16/sa=100/sb=100/plates=2500,3200,4000/",
+        changes, COUNT(changes));
 }
 
 static void put_damages(struct rng *rng, int rounds)
@@ -318,7 +346,8 @@ static void put_sheets(struct rng *rng)
     put_spaces("part=end\nform=c\nmaterial=1\nshell=1\ntemp=150\npressure=1080\ndia=5000\nallow=0\nplates=2499\n");
     put_causes(put_sheet);
     put_limits(rng, -1, 1, 2, put_sheet);
-    put_changes();
+    put_end_changes();
+    put_rib_changes();
     put_damages(rng, 2);
     put_drawn(rng, 14, 0, 4, put_sheet);
     put_drawn(rng, 4, 0, PAPER_SHEET_PLATES, put_sheet);

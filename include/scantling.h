@@ -56,7 +56,7 @@ enum scantling_blind_flange_place {
     SCANTLING_BLIND_FLANGE_PLATE = 12             /* the plate chosen: hundredths of a mm */
 };
 
-/* Causes of refusal, in checking order. The figure is 0 where none is named. */
+/* Causes of refusal, in checking order: 17 comes right after 8. The figure is 0 where none is named. */
 enum scantling_cause {
     SCANTLING_ACCEPTED = 0,
     SCANTLING_BAD_LINE = 1,          /* of a sheet only; figure: the line's number, from 1 */
@@ -67,6 +67,7 @@ enum scantling_cause {
     SCANTLING_BAD_DIAMETER = 6,
     SCANTLING_BAD_ALLOWANCE = 7,
     SCANTLING_BAD_WIDTH = 8,
+    SCANTLING_BAD_RIB = 17,          /* rib or rib_width */
     SCANTLING_BAD_GASKET = 9,        /* m or y */
     SCANTLING_BAD_BOLTS = 10,        /* bolt, root or count */
     SCANTLING_BAD_BOLT_STRESS = 11,  /* sa or sb */
@@ -103,6 +104,8 @@ uint64_t scantling_blind_flange(
     uint32_t allowance,   /* for corrosion, hundredths of a mm: 0 to 1000 */
     uint32_t od,          /* gasket outside contact diameter, tenths of a mm: 500 to 30000 */
     uint32_t width,       /* gasket contact width, tenths of a mm: 100 to 500, and 4 * width at most od */
+    uint32_t rib,         /* length of a pass partition rib, tenths of a mm: 1 to 40000; 0 without one */
+    uint32_t rib_width,   /* its contact width, tenths of a mm: 1 to 500; 0 exactly where rib is 0 */
     uint32_t m,           /* gasket factor, hundredths: 0 to 650 */
     uint32_t y,           /* gasket seating stress, tenths of N/mm2: 0 to 1800 */
     uint32_t circle,      /* bolt circle, tenths of a mm: at least od + 10 * bolt, and 2 * circle at most 3 * G */

@@ -17,8 +17,8 @@ endplateCall form material shell temperature pressure diameter allowance =
     }
 
 -- of a blind flange
-abbrev pub blindFlangeCall : ℕ → ℕ → ℕ → ℕ → ℕ → ℕ → ℕ → ℕ → ℕ → ℕ → ℕ → ℕ → ℕ → ℕ → BlindFlangeSheet
-blindFlangeCall material temperature pressure allowance od width m y circle bolt root count sa sb =
+abbrev pub blindFlangeCall : ℕ → ℕ → ℕ → ℕ → ℕ → ℕ → ℕ → ℕ → ℕ → ℕ → ℕ → ℕ → ℕ → ℕ → ℕ → ℕ → BlindFlangeSheet
+blindFlangeCall material temperature pressure allowance od width rib ribWidth m y circle bolt root count sa sb =
     record {
       material = material;
       temperature = temperature;
@@ -26,6 +26,8 @@ blindFlangeCall material temperature pressure allowance od width m y circle bolt
       allowance = allowance;
       od = od;
       width = width;
+      rib = rib;
+      «rib_width» = ribWidth;
       m = m;
       y = y;
       circle = circle;

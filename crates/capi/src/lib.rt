@@ -57,6 +57,8 @@ pub extern "C" fn scantling_blind_flange(
     allowance: u32,
     od: u32,
     width: u32,
+    rib: u32,
+    rib_width: u32,
     m: u32,
     y: u32,
     circle: u32,
@@ -69,10 +71,12 @@ pub extern "C" fn scantling_blind_flange(
     place: u32,
 ) -> u64
     ensures { λ r.
-        let s = blindFlangeCall material temperature pressure allowance od width m y circle bolt root count sa sb in
+        let s =
+        blindFlangeCall material temperature pressure allowance od width rib «rib_width» m y circle bolt root count sa sb in
         ⌜ r ≡ figureAt (blindFlangeAnswer s (platesIn (now (plates .entry)))) place ⌝ }
     ensures exact { λ r.
-        let s = blindFlangeCall material temperature pressure allowance od width m y circle bolt root count sa sb in
+        let s =
+        blindFlangeCall material temperature pressure allowance od width rib «rib_width» m y circle bolt root count sa sb in
         ⌜ BlindFlangeFigureExact s (blindFlangeAnswer s (platesIn (now (plates .entry)))) place r ⌝ }
 {
     let sheet = BlindFlangeSheet {
@@ -82,6 +86,8 @@ pub extern "C" fn scantling_blind_flange(
         allowance,
         od,
         width,
+        rib,
+        rib_width,
         m,
         y,
         circle,

@@ -18,7 +18,7 @@ use Rattle.limits.specs.Laws.{row-tests, row-more, row-idle}
 use Rattle.limits.specs.declared.EndplateSheet.{EndplateSheet}
 use Rattle.limits.specs.declared.BlindFlangeSheet.{BlindFlangeSheet}
 use Rattle.rules.specs.Endplate.{endplateThickness}
-use Rattle.rules.specs.Figures.{endplateFigures}
+use Rattle.rules.specs.Figures.{endplateFigures, blindFlangeFigures}
 use Rattle.rules.specs.FlangeCauses.{boltsCauses, blindFlangeCauses}
 use Rattle.rules.specs.Answer.{fromPlates, causeOf, reportOf, endplateUnless, endplateSizing, endplateAnswer}
 use Rattle.rules.specs.Answer.{blindFlangeUnless, blindFlangeSizing, blindFlangeAnswer}
@@ -45,8 +45,8 @@ causesOf (blindFlange s plates) = blindFlangeCauses s
 -- this being the first cause, or 0 for none
 abbrev answerFrom : Sheet → ℕ → Answer
 answerFrom (malformed line) cause = Refused 1 line
-answerFrom (endplate s plates) cause = fromPlates (endplateUnless cause s) plates
-answerFrom (blindFlange s plates) cause = fromPlates (blindFlangeUnless cause s) plates
+answerFrom (endplate s plates) cause = fromPlates (endplateUnless cause (endplateFigures s)) plates
+answerFrom (blindFlange s plates) cause = fromPlates (blindFlangeUnless cause (blindFlangeFigures s)) plates
 
 present : (s : Sheet) → answerFrom s (firstCause (causesOf s)) ≡ answered s
 unfolding endplateAnswer endplateSizing blindFlangeAnswer blindFlangeSizing

@@ -3,3 +3,4 @@ mod Starred
 mod EmptyPrograms
 mod ConstantNeed
 mod GreatestDiameter
+mod PassPartitionRibs

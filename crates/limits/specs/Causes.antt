@@ -28,7 +28,7 @@ firstOf (number ∷ numbers) causes = cond (any (testsOf causes number)) number 
 -- checking order: of several causes that apply, the first in this order answers. It stands here in the steps in which a blind
 -- flange is judged: by its numbers, by its bolting once the gasket is worked, by its loads, by the plates
 abbrev pub ofNumbers : List ℕ
-ofNumbers = 2 ∷ 3 ∷ 4 ∷ 5 ∷ 6 ∷ 7 ∷ 8 ∷ 9 ∷ []
+ofNumbers = 2 ∷ 3 ∷ 4 ∷ 5 ∷ 6 ∷ 7 ∷ 8 ∷ 17 ∷ 9 ∷ []
 
 abbrev pub ofBolting : List ℕ
 ofBolting = 10 ∷ 11 ∷ 12 ∷ []

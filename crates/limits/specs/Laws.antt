@@ -189,6 +189,17 @@ pub none-passed-over :
 none-passed-over cs t e c m =
     at-its-row cs c m (none-applies checkingOrder cs tt e (c .0) (listed cs c t m))
 
+-- ---- a number more
+
+-- a number none of whose tests holds makes no difference where it stands in an order
+pub number-idle :
+    (number : ℕ) (ns ms : List ℕ) (cs : Causes) →
+    any (testsOf cs number) ≡ false →
+    firstOf (ns ++ number ∷ ms) cs ≡ firstOf (ns ++ ms) cs
+unfolding firstOf
+number-idle number [] ms cs e = rw e
+number-idle number (n ∷ ns) ms cs e = rw (number-idle number ns ms cs e)
+
 -- ---- a row more
 
 -- where the same numbers apply, the same one is the first

@@ -1,4 +1,4 @@
--- The limits that the numbers of a sheet keep to (document 01): causes 2 to 12 of both parts. 13, the bolts do not carry, and
+-- The limits that the numbers of a sheet keep to (document 01): causes 2 to 12 and 17 of both parts. 13, the bolts do not carry, and
 -- 14, no plate, are worked from the loads and the total, in the crate rules.
 use Prim.Native.Nat.{ℕ, _+_, _*_}
 use mathlib.Core.Bool.{not, Bool·beq}
@@ -49,6 +49,10 @@ allowanceRefused allowance = ltb 1000 allowance ∷ []
 abbrev pub widthRefused : ℕ → ℕ → Tests
 widthRefused od width = ltb width 100 ∷ ltb 500 width ∷ ltb od (4 * width) ∷ []
 
+-- 17: exactly one of rib and ribw is 0, or rib is over 40000, or ribw is over 500 (document 02, R-4)
+abbrev pub ribRefused : ℕ → ℕ → Tests
+ribRefused rib width = not (Bool·beq (eqb rib 0) (eqb width 0)) ∷ ltb 40000 rib ∷ ltb 500 width ∷ []
+
 -- 9: m over 650 or y over 1800
 abbrev pub gasketRefused : ℕ → ℕ → Tests
 gasketRefused m y = ltb 650 m ∷ ltb 1800 y ∷ []
@@ -86,7 +90,7 @@ endplateCauses s =
 
 -- ---- of a blind flange
 
--- 2 to 9: the limits within which its gasket and the loads are worked
+-- 2 to 9 and 17: the limits within which its gasket and the loads are worked
 unfoldable pub flangeLimits : BlindFlangeSheet → Causes
 flangeLimits s =
     (2, materialRefused (s .material))
@@ -96,6 +100,7 @@ flangeLimits s =
     ∷ (6, diameterRefused (s .od))
     ∷ (7, allowanceRefused (s .allowance))
     ∷ (8, widthRefused (s .od) (s .width))
+    ∷ (17, ribRefused (s .rib) (s .«rib_width»))
     ∷ (9, gasketRefused (s .m) (s .y))
     ∷ []
 

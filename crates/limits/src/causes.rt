@@ -1,4 +1,4 @@
-// Causes of a refusal: their numbers, the tests of 2 to 12, and the first that applies.
+// Causes of a refusal: their numbers, the tests of 2 to 12 and 17, and the first that applies.
 //
 // `|` stands where `||` would do: the answer is then the definition's own expression.
 use crate::BlindFlangeSheet;
@@ -12,7 +12,8 @@ ghost use Rattle.limits.specs.Causes.{any, firstCause};
 ghost use Rattle.limits.specs.Limits.{endplateCauses, flangeLimits, boltingLimits};
 ghost use Rattle.limits.specs.Limits.{materialRefused, shellRefused, formRefused, pressureRefused};
 ghost use Rattle.limits.specs.Limits.{temperatureRefused, noStress, diameterRefused, allowanceRefused};
-ghost use Rattle.limits.specs.Limits.{widthRefused, gasketRefused, boltsRefused, boltStressRefused, circleRefused};
+ghost use Rattle.limits.specs.Limits.{widthRefused, ribRefused, gasketRefused, boltsRefused};
+ghost use Rattle.limits.specs.Limits.{boltStressRefused, circleRefused};
 
 const MATERIAL: u32 = 2;
 
@@ -35,6 +36,8 @@ const BOLTS: u32 = 10;
 const BOLT_STRESS: u32 = 11;
 
 const CIRCLE: u32 = 12;
+
+const RIB: u32 = 17;
 
 fn material_refused(material: u32) -> bool
     ensures { λ r. ⌜ r ≡ any (materialRefused material) ⌝ }
@@ -88,6 +91,12 @@ fn width_refused(od: u32, width: u32) -> bool
     ensures { λ r. ⌜ r ≡ any (widthRefused od width) ⌝ }
 {
     (width < 100) | (500 < width) | ((od as u64) < 4 * (width as u64))
+}
+
+fn rib_refused(rib: u32, width: u32) -> bool
+    ensures { λ r. ⌜ r ≡ any (ribRefused rib width) ⌝ }
+{
+    ((rib == 0) != (width == 0)) | (40000 < rib) | (500 < width)
 }
 
 fn gasket_refused(m: u32, y: u32) -> bool
@@ -153,7 +162,7 @@ pub fn endplate_cause(s: EndplateSheet) -> u32
     or_cause(k, ALLOWANCE, allowance)
 }
 
-// The first of the causes 2 to 9 that applies to a blind flange, in checking order; 0 where none does.
+// The first of the causes 2 to 9 and 17 that applies to a blind flange, in checking order; 0 where none does.
 pub fn flange_limits(s: BlindFlangeSheet) -> u32
     ensures { λ r. ⌜ r ≡ firstCause (flangeLimits s) ⌝ }
 {
@@ -165,6 +174,7 @@ pub fn flange_limits(s: BlindFlangeSheet) -> u32
     let diameter = diameter_refused(s.od);
     let allowance = allowance_refused(s.allowance);
     let width = width_refused(s.od, s.width);
+    let rib = rib_refused(s.rib, s.rib_width);
     let gasket = gasket_refused(s.m, s.y);
     let k = or_cause(0, MATERIAL, material);
     let k = or_cause(k, PRESSURE, pressure);
@@ -173,6 +183,7 @@ pub fn flange_limits(s: BlindFlangeSheet) -> u32
     let k = or_cause(k, DIAMETER, diameter);
     let k = or_cause(k, ALLOWANCE, allowance);
     let k = or_cause(k, WIDTH, width);
+    let k = or_cause(k, RIB, rib);
     or_cause(k, GASKET, gasket)
 }
 

@@ -1,4 +1,4 @@
-// The numbers of the two sheets, and the limits that they keep to: causes 2 to 12 of a refusal, in checking order.
+// The numbers of the two sheets, and the limits that they keep to: causes 2 to 12 and 17 of a refusal, in checking order.
 mod causes;
 mod stress;
 
@@ -39,6 +39,10 @@ pub struct BlindFlangeSheet {
     pub od: u32,
     // width, n: contact width of the gasket, tenths of a mm.
     pub width: u32,
+    // rib: length of a pass partition rib, tenths of a mm; 0 without one.
+    pub rib: u32,
+    // ribw: its contact width, tenths of a mm; 0 without one.
+    pub rib_width: u32,
     // m: gasket factor, hundredths.
     pub m: u32,
     // y: gasket seating stress, tenths of N/mm².

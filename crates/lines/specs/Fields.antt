@@ -46,6 +46,8 @@ blindFlangeFields =
     ∷ ("allow", numberOf)
     ∷ ("od", numberOf)
     ∷ ("width", numberOf)
+    ∷ ("rib", numberOf)
+    ∷ ("ribw", numberOf)
     ∷ ("m", numberOf)
     ∷ ("y", numberOf)
     ∷ ("circle", numberOf)

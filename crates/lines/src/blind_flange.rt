@@ -18,7 +18,11 @@ pub const OD: usize = ALLOWANCE + 1;
 
 pub const WIDTH: usize = OD + 1;
 
-pub const M: usize = WIDTH + 1;
+pub const RIB: usize = WIDTH + 1;
+
+pub const RIB_WIDTH: usize = RIB + 1;
+
+pub const M: usize = RIB_WIDTH + 1;
 
 pub const Y: usize = M + 1;
 
@@ -48,6 +52,8 @@ pub(crate) fn blind_flange_field(t: &[u8], i: usize) -> Number
         ALLOWANCE => number_line(t, b"allow"),
         OD => number_line(t, b"od"),
         WIDTH => number_line(t, b"width"),
+        RIB => number_line(t, b"rib"),
+        RIB_WIDTH => number_line(t, b"ribw"),
         M => number_line(t, b"m"),
         Y => number_line(t, b"y"),
         CIRCLE => number_line(t, b"circle"),

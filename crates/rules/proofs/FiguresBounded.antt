@@ -12,14 +12,14 @@ use Rattle.tables.specs.Laws.{stress-most}
 use Rattle.root.specs.Least.{least-most}
 use Rattle.root.specs.Laws.{ceilDiv-le}
 use Rattle.limits.specs.Stress.{formA, endplateStress}
-use Rattle.rules.specs.Bounds.{mostPressure, mostStress, mostDiameter, mostWidth, mostEffectiveWidth}
+use Rattle.rules.specs.Bounds.{mostPressure, mostStress, mostDiameter, mostWidth, mostEffectiveWidth, mostRib}
 use Rattle.rules.specs.Bounds.{mostFactor, mostBoltStress, mostGasketLoad, mostThickness}
 use Rattle.rules.specs.Endplate.{endplateThickness, endplate-factor, endplateThickness-least}
 use Rattle.rules.specs.BlindFlange.{moment, flangeLoading, flangeThickness, edgeUnder, flange-factor}
 use Rattle.rules.specs.BlindFlange.{flangeThickness-least, edgeUnder-least}
 use Rattle.rules.specs.Gasket.{narrow, wideWidth, wideWidth-least, effectiveWidth, reactionDiameter}
 use Rattle.rules.specs.Loads.{exactOperatingLoad, exactSeatingLoad, operatingLoad, seatingLoad, flangeLoad}
-use Rattle.rules.proofs.ProductsFit.{ring-products}
+use Rattle.rules.proofs.ProductsFit.{gasket-products}
 
 -- ---- the gasket
 
@@ -46,25 +46,29 @@ inset od n = by-width (narrow n)
 -- ---- the loads
 
 pub operatingLoad-most :
-    {G b m P : ℕ} →
+    {G b rib br m P : ℕ} →
     G ≤ mostDiameter →
     b ≤ mostEffectiveWidth →
+    rib ≤ mostRib →
+    br ≤ mostEffectiveWidth →
     m ≤ mostFactor →
     P ≤ mostPressure →
-    operatingLoad (exactOperatingLoad G b m P) ≤ mostGasketLoad
+    operatingLoad (exactOperatingLoad G b rib br m P) ≤ mostGasketLoad
 unfolding operatingLoad exactOperatingLoad
-operatingLoad-most hG hb hm hP =
-    ceilDiv-le _ (10 ^ 10) mostGasketLoad (omega arith) .1 (omega (arith, ring-products hG hb hm hP))
+operatingLoad-most hG hb hrib hbr hm hP =
+    ceilDiv-le _ (10 ^ 10) mostGasketLoad (omega arith) .1 (omega (arith, gasket-products hG hb hrib hbr hm hP))
 
 pub seatingLoad-most :
-    {G b y : ℕ} →
+    {G b rib br y : ℕ} →
     G ≤ mostDiameter →
     b ≤ mostEffectiveWidth →
+    rib ≤ mostRib →
+    br ≤ mostEffectiveWidth →
     y ≤ mostFactor →
-    seatingLoad (exactSeatingLoad G b y) ≤ mostGasketLoad
+    seatingLoad (exactSeatingLoad G b rib br y) ≤ mostGasketLoad
 unfolding seatingLoad exactSeatingLoad
-seatingLoad-most hG hb hy =
-    ceilDiv-le _ (10 ^ 6) mostGasketLoad (omega arith) .1 (omega (arith, ring-products hG hb hy hy))
+seatingLoad-most hG hb hrib hbr hy =
+    ceilDiv-le _ (10 ^ 6) mostGasketLoad (omega arith) .1 (omega (arith, gasket-products hG hb hrib hbr hy hy))
 
 -- sa ≤ 4·sb bounds W by the other loads and the area
 pub flangeLoad-most :

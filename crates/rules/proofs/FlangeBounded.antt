@@ -57,8 +57,8 @@ module _ (s : BlindFlangeSheet) (a : FlangeWithin s) where
       let r = ring-most refl (inset (s .od) (s .width)) in
       record {
         ring = r;
-        operating = operatingLoad-most (r .diameter) (r .width) (a .m) (a .pressure);
-        seating = seatingLoad-most (r .diameter) (r .width) (a .y);
+        operating = operatingLoad-most (r .diameter) (r .width) (a .rib) (a .rib-width) (a .m) (a .pressure);
+        seating = seatingLoad-most (r .diameter) (r .width) (a .rib) (a .rib-width) (a .y);
       }
 
   pub gasket-most : {gasket : Gasket} → gasket ≡ gasketOf s → GasketMost gasket

@@ -3,34 +3,44 @@
 use Prim.Native.Nat.{ℕ, _+_, _-_, _*_, _≤_}
 use native.Mathlib.Nat.{mul-le-mul}
 use native.Mathlib.Omega.{arith}
-use Rattle.rules.specs.Bounds.{mostPressure, mostStress, mostDiameter, mostLever, mostEffectiveWidth, mostFactor}
-use Rattle.rules.specs.Bounds.{mostArea, mostBoltStress, mostGasketLoad, mostLoad, BoltsBounded}
+use Rattle.rules.specs.Bounds.{mostPressure, mostStress, mostDiameter, mostLever, mostEffectiveWidth, mostRib}
+use Rattle.rules.specs.Bounds.{mostFactor, mostArea, mostBoltStress, mostGasketLoad, mostLoad, BoltsBounded}
 
--- of the operating and the seating load
-pub record RingProducts (g b m p : ℕ) : Type 0 where
+-- of the operating and the seating load, of the ring and of a rib with its own b
+pub record GasketProducts (g b rib br m p : ℕ) : Type 0 where
   pub gg : g * g ≤ mostDiameter * mostDiameter
   pub ggp : g * g * p ≤ mostDiameter * mostDiameter * mostPressure
   pub bg : b * g ≤ mostEffectiveWidth * mostDiameter
   pub bgm : b * g * m ≤ mostEffectiveWidth * mostDiameter * mostFactor
   pub bgmp : b * g * m * p ≤ mostEffectiveWidth * mostDiameter * mostFactor * mostPressure
+  pub br-rib : br * rib ≤ mostEffectiveWidth * mostRib
+  pub br-rib-m : br * rib * m ≤ mostEffectiveWidth * mostRib * mostFactor
+  pub br-rib-mp : br * rib * m * p ≤ mostEffectiveWidth * mostRib * mostFactor * mostPressure
 
 module _
-    {g b m p : ℕ}
+    {g b rib br m p : ℕ}
     (hg : g ≤ mostDiameter)
     (hb : b ≤ mostEffectiveWidth)
+    (hrib : rib ≤ mostRib)
+    (hbr : br ≤ mostEffectiveWidth)
     (hm : m ≤ mostFactor)
     (hp : p ≤ mostPressure) where
-  pub ring-products : RingProducts g b m p
-  ring-products =
+  pub gasket-products : GasketProducts g b rib br m p
+  gasket-products =
       let gg = mul-le-mul hg hg in
       let bg = mul-le-mul hb hg in
       let bgm = mul-le-mul bg hm in
+      let br-rib = mul-le-mul hbr hrib in
+      let br-rib-m = mul-le-mul br-rib hm in
       record {
         gg = gg;
         ggp = mul-le-mul gg hp;
         bg = bg;
         bgm = bgm;
         bgmp = mul-le-mul bgm hp;
+        br-rib = br-rib;
+        br-rib-m = br-rib-m;
+        br-rib-mp = mul-le-mul br-rib-m hp;
       }
 
 -- of the bolts

@@ -1,4 +1,4 @@
--- What the numbers of a sheet keep to where none of the causes 2 to 12 applies. The bounds are wider than the limits, which
+-- What the numbers of a sheet keep to where none of the causes 2 to 12 and 17 applies. The bounds are wider than the limits, which
 -- stand in the crate limits alone. Assumes nothing.
 use mathlib.Core.Path.{_≡_}
 use mathlib.Core.Logic.{_≢_}
@@ -14,8 +14,8 @@ use Rattle.limits.specs.Limits.{endplateCauses, flangeLimits, boltingLimits}
 use Rattle.limits.specs.declared.EndplateSheet.{EndplateSheet}
 use Rattle.limits.specs.declared.BlindFlangeSheet.{BlindFlangeSheet}
 use Rattle.limits.specs.Laws.{cause-fails, none-of-both}
-use Rattle.rules.specs.Bounds.{mostPressure, mostDiameter, mostAllowance, mostEffectiveWidth, mostFactor}
-use Rattle.rules.specs.Bounds.{mostBolts, mostArea, mostBoltStress}
+use Rattle.rules.specs.Bounds.{mostPressure, mostDiameter, mostAllowance, mostEffectiveWidth, mostRib}
+use Rattle.rules.specs.Bounds.{mostFactor, mostBolts, mostArea, mostBoltStress}
 use Rattle.rules.specs.Gasket.{effectiveWidth, reactionDiameter}
 use Rattle.rules.specs.Bolts.{boltArea}
 use Rattle.rules.specs.FlangeCauses.{boltsCauses, blindFlangeCauses}
@@ -39,7 +39,7 @@ endplate-within s e =
       allowance = let h = n 7 tt 0 in omega (arith, ltb-false);
     }
 
--- 2 to 9
+-- 2 to 9 and 17
 pub record FlangeWithin (s : BlindFlangeSheet) : Type 0 where
   pub pressure : s .pressure ≤ mostPressure
   pub stressed : designStress (s .material) (s .temperature) ≢ 0
@@ -47,6 +47,8 @@ pub record FlangeWithin (s : BlindFlangeSheet) : Type 0 where
   pub od-least : 1 ≤ s .od
   pub allowance : s .allowance ≤ mostAllowance
   pub width : effectiveWidth (s .width) ≤ mostEffectiveWidth
+  pub rib : s .rib ≤ mostRib
+  pub rib-width : effectiveWidth (s .«rib_width») ≤ mostEffectiveWidth
   pub m : s .m ≤ mostFactor
   pub y : s .y ≤ mostFactor
 
@@ -61,6 +63,8 @@ flange-within s e =
       od-least = let h = n 6 tt 0 in omega (arith, ltb-false);
       allowance = let h = n 7 tt 0 in omega (arith, ltb-false);
       width = omega (arith, effectiveWidth-most (s .width) (let h = n 8 tt 1 in omega (arith, ltb-false)));
+      rib = let h = n 17 tt 1 in omega (arith, ltb-false);
+      rib-width = omega (arith, effectiveWidth-most (s .«rib_width») (let h = n 17 tt 2 in omega (arith, ltb-false)));
       m = let h = n 9 tt 0 in omega (arith, ltb-false);
       y = let h = n 9 tt 1 in omega (arith, ltb-false);
     }

@@ -27,18 +27,18 @@ use Rattle.rules.specs.declared.Answer.the-variants.{Endplate, BlindFlan
 abbrev pub refusedOr : ℕ → Sizing → Sizing
 refusedOr cause sized = cond (eqb cause 0) sized (Sizing·Refused cause)
 
--- a part's size unless this cause refuses it; 0 is none
-abbrev pub endplateUnless : ℕ → EndplateSheet → Sizing
-endplateUnless cause s = refusedOr cause (Sizing·Endplate (endplateFigures s))
+-- a part's size by these figures unless this cause refuses it; 0 is none
+abbrev pub endplateUnless : ℕ → EndplateFigures → Sizing
+endplateUnless cause f = refusedOr cause (Sizing·Endplate f)
 
-abbrev pub blindFlangeUnless : ℕ → BlindFlangeSheet → Sizing
-blindFlangeUnless cause s = refusedOr cause (Sizing·BlindFlange (blindFlangeFigures s))
+abbrev pub blindFlangeUnless : ℕ → BlindFlangeFigures → Sizing
+blindFlangeUnless cause f = refusedOr cause (Sizing·BlindFlange f)
 
 unfoldable pub endplateSizing : EndplateSheet → Sizing
-endplateSizing s = endplateUnless (firstCause (endplateCauses s)) s
+endplateSizing s = endplateUnless (firstCause (endplateCauses s)) (endplateFigures s)
 
 unfoldable pub blindFlangeSizing : BlindFlangeSheet → Sizing
-blindFlangeSizing s = blindFlangeUnless (firstCause (blindFlangeCauses s)) s
+blindFlangeSizing s = blindFlangeUnless (firstCause (blindFlangeCauses s)) (blindFlangeFigures s)
 
 -- total; what is refused has none
 abbrev pub totalOf : Sizing → ℕ

@@ -22,13 +22,17 @@ mostLever = 2 ^ 14
 abbrev pub mostAllowance : ℕ
 mostAllowance = 2 ^ 10
 
--- n, tenths of a mm
+-- n of the ring and of a rib, tenths of a mm
 abbrev pub mostWidth : ℕ
 mostWidth = 2 ^ 10
 
 -- b, hundredths of a mm
 abbrev pub mostEffectiveWidth : ℕ
 mostEffectiveWidth = 2 ^ 11
+
+-- length of a rib, tenths of a mm
+abbrev pub mostRib : ℕ
+mostRib = 2 ^ 16
 
 -- m, hundredths, and y, tenths of N/mm²
 abbrev pub mostFactor : ℕ
@@ -48,7 +52,7 @@ mostBoltStress = 2 ^ 9
 
 -- Wm1 and Wm2, N
 abbrev pub mostGasketLoad : ℕ
-mostGasketLoad = 2 ^ 26
+mostGasketLoad = 2 ^ 27
 
 -- W, and whatever load a thickness is worked under, N
 abbrev pub mostLoad : ℕ

@@ -21,6 +21,6 @@ boltsCauses s bolt root count =
     boltsLimits s (gasket .«reaction_diameter») bolt root count
     ++ (13, boltsOverloaded gasket (boltArea root count) (s .sa) (s .sb)) ∷ []
 
--- 2 to 9, 11, and those of the sheet's bolts
+-- 2 to 9, 17, 11, and those of the sheet's bolts
 unfoldable pub blindFlangeCauses : BlindFlangeSheet → Causes
 blindFlangeCauses s = flangeLimits s ++ boltStressLimits s ++ boltsCauses s (s .bolt) (s .root) (s .count)

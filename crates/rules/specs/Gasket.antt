@@ -1,5 +1,5 @@
--- Gasket (document 01, Blind flanges): a flat ring inside the bolt circle. Contact width n and diameters in tenths of a
--- mm, b in hundredths.
+-- Gasket (document 01, Blind flanges): a flat ring inside the bolt circle, and a rib across it if any. Contact width n and
+-- diameters in tenths of a mm, b in hundredths.
 use Prim.Native.Nat.{ℕ, _-_, _*_}
 use mathlib.Core.Bool.{Bool, cond}
 use lib.Dec.{leb}
@@ -20,7 +20,7 @@ pub wideWidth-least : (n : ℕ) → Least (λ k. 1000 * (k * k) ≥ 31752 * n) (
 unfolding wideWidth
 wideWidth-least n = leastRootOver-least (31752 * n) 1000 (omega arith)
 
--- b: 5·n, or 10·k
+-- b: 5·n, or 10·k; of the ring and of a rib alike
 unfoldable pub effectiveWidth : ℕ → ℕ
 effectiveWidth n = cond (narrow n) (5 * n) (10 * wideWidth n)
 

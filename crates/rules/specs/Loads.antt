@@ -1,5 +1,7 @@
 -- Bolt loads (document 01, Blind flanges; ASME Section VIII Division 1, Appendix 2), in N. G in tenths of a mm, b in
--- hundredths; m in hundredths, y in tenths of N/mm²; P in thousandths of N/mm²; A in tenths of mm², sa and sb in N/mm².
+-- hundredths; rib, the length of a pass partition rib, in tenths of a mm, and br, its b, in hundredths, both 0 without one
+-- (document 02, R-4); m in hundredths, y in tenths of N/mm²; P in thousandths of N/mm²; A in tenths of mm², sa and sb in
+-- N/mm².
 use Prim.Native.Nat.{ℕ, _+_, _*_, _^_, max, _≤_}
 use native.Mathlib.Omega.{arith}
 use Rattle.root.specs.Least.{_≥_, Least}
@@ -11,13 +13,13 @@ use Rattle.rules.specs.declared.gasket.Gasket.{Gasket}
 
 -- ---- exact: fractions multiplied out to whole numbers
 
--- V1: exact Wm1 times 10¹⁰
-unfoldable pub exactOperatingLoad : ℕ → ℕ → ℕ → ℕ → ℕ
-exactOperatingLoad G b m P = 78500 * (G * G) * P + 628 * b * G * m * P
+-- V1: exact Wm1 times 10¹⁰. The rib adds 2·br·rib·m·P
+unfoldable pub exactOperatingLoad : ℕ → ℕ → ℕ → ℕ → ℕ → ℕ → ℕ
+exactOperatingLoad G b rib br m P = 78500 * (G * G) * P + 628 * b * G * m * P + 200 * br * rib * m * P
 
--- V2: exact Wm2 times 10⁶
-unfoldable pub exactSeatingLoad : ℕ → ℕ → ℕ → ℕ
-exactSeatingLoad G b y = 314 * b * G * y
+-- V2: exact Wm2 times 10⁶. The rib adds br·rib·y
+unfoldable pub exactSeatingLoad : ℕ → ℕ → ℕ → ℕ → ℕ → ℕ
+exactSeatingLoad G b rib br y = 314 * b * G * y + 100 * br * rib * y
 
 -- V: exact W times 2·10¹¹·sb
 unfoldable pub exactFlangeLoad : ℕ → ℕ → ℕ → ℕ → ℕ → ℕ
@@ -30,21 +32,22 @@ unfoldable pub operatingLoad : ℕ → ℕ
 operatingLoad V1 = ceilDiv V1 (10 ^ 10)
 
 pub operatingLoad-least :
-    (G b m P : ℕ) →
+    (G b rib br m P : ℕ) →
     Least
-    (λ Wm1. 10 ^ 10 * Wm1 ≥ 78500 * (G * G) * P + 628 * b * G * m * P)
-    (operatingLoad (exactOperatingLoad G b m P))
+    (λ Wm1. 10 ^ 10 * Wm1 ≥ 78500 * (G * G) * P + 628 * b * G * m * P + 200 * br * rib * m * P)
+    (operatingLoad (exactOperatingLoad G b rib br m P))
 unfolding exactOperatingLoad operatingLoad
-operatingLoad-least G b m P = ceilDiv-least _ (10 ^ 10) (omega arith)
+operatingLoad-least G b rib br m P = ceilDiv-least _ (10 ^ 10) (omega arith)
 
 -- Wm2: the least with 10⁶·Wm2 ≥ V2
 unfoldable pub seatingLoad : ℕ → ℕ
 seatingLoad V2 = ceilDiv V2 (10 ^ 6)
 
 pub seatingLoad-least :
-    (G b y : ℕ) → Least (λ Wm2. 10 ^ 6 * Wm2 ≥ 314 * b * G * y) (seatingLoad (exactSeatingLoad G b y))
+    (G b rib br y : ℕ) →
+    Least (λ Wm2. 10 ^ 6 * Wm2 ≥ 314 * b * G * y + 100 * br * rib * y) (seatingLoad (exactSeatingLoad G b rib br y))
 unfolding exactSeatingLoad seatingLoad
-seatingLoad-least G b y = ceilDiv-least _ (10 ^ 6) (omega arith)
+seatingLoad-least G b rib br y = ceilDiv-least _ (10 ^ 6) (omega arith)
 
 -- W: the least with 20·sb·W ≥ the greater of 10·Wm1·sa and 10·Wm2·sb, plus A·sa·sb
 unfoldable pub flangeLoad : ℕ → ℕ → ℕ → ℕ → ℕ → ℕ
@@ -64,10 +67,15 @@ flangeLoad-least Wm1 Wm2 A sa sb some = ceilDiv-least _ (20 * sb) (omega arith)
 -- V1 and V2
 abbrev pub exactOperatingLoadOf : BlindFlangeSheet → ℕ
 exactOperatingLoadOf s =
-    exactOperatingLoad (reactionDiameter (s .od) (s .width)) (effectiveWidth (s .width)) (s .m) (s .pressure)
+    let G = reactionDiameter (s .od) (s .width) in
+    let b = effectiveWidth (s .width) in
+    exactOperatingLoad G b (s .rib) (effectiveWidth (s .«rib_width»)) (s .m) (s .pressure)
 
 abbrev pub exactSeatingLoadOf : BlindFlangeSheet → ℕ
-exactSeatingLoadOf s = exactSeatingLoad (reactionDiameter (s .od) (s .width)) (effectiveWidth (s .width)) (s .y)
+exactSeatingLoadOf s =
+    let G = reactionDiameter (s .od) (s .width) in
+    let b = effectiveWidth (s .width) in
+    exactSeatingLoad G b (s .rib) (effectiveWidth (s .«rib_width»)) (s .y)
 
 -- the gasket and its loads as one value: G, b, Wm1, Wm2
 unfoldable pub gasketOf : BlindFlangeSheet → Gasket

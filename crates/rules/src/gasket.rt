@@ -1,4 +1,5 @@
-// The gasket: effective width b, diameter of the gasket load reaction G, and its loads, worked once for a sheet.
+// The gasket: effective width b, diameter of the gasket load reaction G, and the loads of its ring and rib, worked once for
+// a sheet.
 use crate::BlindFlangeSheet;
 use crate::loads::operating_load;
 use crate::loads::seating_load;
@@ -21,7 +22,7 @@ pub(crate) struct Gasket {
     pub seating_load: u64,
 }
 
-// b in hundredths of a mm, of a contact width in tenths.
+// b in hundredths of a mm, of a contact width in tenths; 0 of none.
 fn effective_width(width: u32) -> u64
     ensures { λ r. ⌜ r ≡ effectiveWidth width ⌝ }
 {
@@ -44,15 +45,16 @@ fn reaction_diameter(od: u32, b: u64) -> u32
     }
 }
 
-// Asked for where none of the causes 2 to 9 applies: within these limits the loads fit.
+// Asked for where none of the causes 2 to 9 and 17 applies: within these limits the loads fit.
 pub(crate) fn gasket_of(s: BlindFlangeSheet) -> Gasket
     requires { ⌜ firstCause (flangeLimits s) ≡ 0 ⌝ }
     ensures { λ r. ⌜ r ≡ gasketOf s ⌝ }
 {
     let b = effective_width(s.width);
+    let br = effective_width(s.rib_width);
     let g = reaction_diameter(s.od, b);
-    let operating = operating_load(g, b, s.m, s.pressure);
-    let seating = seating_load(g, b, s.y);
+    let operating = operating_load(g, b, s.rib, br, s.m, s.pressure);
+    let seating = seating_load(g, b, s.rib, br, s.y);
     Gasket {
         reaction_diameter: g,
         effective_width: b,

@@ -2,28 +2,36 @@
 use crate::compare::greater;
 ghost use mathlib.Core.Path.{_≡_};
 ghost use Prim.Native.Nat.{_≤_};
-ghost use Rattle.rules.specs.Bounds.{mostPressure, mostDiameter, mostEffectiveWidth, mostFactor, BoltsBounded};
+ghost use Rattle.rules.specs.Bounds.{mostPressure, mostDiameter, mostEffectiveWidth, mostRib, mostFactor};
+ghost use Rattle.rules.specs.Bounds.{BoltsBounded};
 ghost use Rattle.rules.specs.Loads.{exactOperatingLoad, exactSeatingLoad};
 ghost use Rattle.rules.specs.Loads.{operatingLoad, seatingLoad, flangeLoad};
 
-// Wm1.
-pub(crate) fn operating_load(g: u32, b: u64, m: u32, pressure: u32) -> u64
+// Wm1, of the ring and of a rib with its own b.
+pub(crate) fn operating_load(g: u32, b: u64, rib: u32, br: u64, m: u32, pressure: u32) -> u64
     requires { ⌜ (g ≤ mostDiameter) × (b ≤ mostEffectiveWidth) × (m ≤ mostFactor) × (pressure ≤ mostPressure) ⌝ }
-    ensures { λ r. ⌜ r ≡ operatingLoad (exactOperatingLoad g b m pressure) ⌝ }
+    requires { ⌜ (rib ≤ mostRib) × (br ≤ mostEffectiveWidth) ⌝ }
+    ensures { λ r. ⌜ r ≡ operatingLoad (exactOperatingLoad g b rib br m pressure) ⌝ }
 {
     let g = g as u64;
+    let m = m as u64;
     let p = pressure as u64;
     let end = 78500 * (g * g) * p;
-    let gasket = 628 * b * g * (m as u64) * p;
-    root::ceil_div(end + gasket, 10000000000)
+    let ring = 628 * b * g * m * p;
+    let rib = 200 * br * (rib as u64) * m * p;
+    root::ceil_div(end + ring + rib, 10000000000)
 }
 
-// Wm2.
-pub(crate) fn seating_load(g: u32, b: u64, y: u32) -> u64
+// Wm2, of both.
+pub(crate) fn seating_load(g: u32, b: u64, rib: u32, br: u64, y: u32) -> u64
     requires { ⌜ (g ≤ mostDiameter) × (b ≤ mostEffectiveWidth) × (y ≤ mostFactor) ⌝ }
-    ensures { λ r. ⌜ r ≡ seatingLoad (exactSeatingLoad g b y) ⌝ }
+    requires { ⌜ (rib ≤ mostRib) × (br ≤ mostEffectiveWidth) ⌝ }
+    ensures { λ r. ⌜ r ≡ seatingLoad (exactSeatingLoad g b rib br y) ⌝ }
 {
-    root::ceil_div(314 * b * (g as u64) * (y as u64), 1000000)
+    let y = y as u64;
+    let ring = 314 * b * (g as u64) * y;
+    let rib = 100 * br * (rib as u64) * y;
+    root::ceil_div(ring + rib, 1000000)
 }
 
 // W, of Wm1, Wm2, A and the bolt stresses.

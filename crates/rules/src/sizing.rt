@@ -36,7 +36,7 @@ pub(crate) fn endplate_sizing(s: EndplateSheet) -> Sizing
     Sizing::Endplate(figures::endplate_figures(s))
 }
 
-// Cause after cause, and the thicknesses last: the gasket is worked once none of 2 to 9 applies.
+// Cause after cause, and the thicknesses last: the gasket is worked once none of 2 to 9 and 17 applies.
 pub(crate) fn blind_flange_sizing(s: BlindFlangeSheet) -> Sizing
     ensures { λ r. ⌜ r ≡ blindFlangeSizing s ⌝ }
 {

@@ -42,6 +42,8 @@ fn blind_flange_sheet(v: [u32; MOST_FIELDS]) -> BlindFlangeSheet
         allowance: v[blind_flange::ALLOWANCE],
         od: v[blind_flange::OD],
         width: v[blind_flange::WIDTH],
+        rib: v[blind_flange::RIB],
+        rib_width: v[blind_flange::RIB_WIDTH],
         m: v[blind_flange::M],
         y: v[blind_flange::Y],
         circle: v[blind_flange::CIRCLE],

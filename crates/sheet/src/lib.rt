@@ -18,7 +18,7 @@ pub enum Outcome {
     Report {
         length: usize,
     },
-    // Causes 1 to 14: the report of two lines is written. The figure is the line of 1, the total of 14, else 0.
+    // Causes 1 to 14 and 17: the report of two lines is written. The figure is the line of 1, the total of 14, else 0.
     Refused {
         cause: u32,
         figure: u64,

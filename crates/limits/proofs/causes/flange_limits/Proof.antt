@@ -10,7 +10,8 @@ use Rattle.limits.proofs.causes.flange_limits.Tie as tie
 returns : tie.Need-returns
 unfolding firstOf flangeLimits
 returns c =
-    let r7 = c .before in
+    let r8 = c .before in
+    let r7 = r8 .before in
     let r6 = r7 .before in
     let r5 = r6 .before in
     let r4 = r5 .before in
@@ -18,7 +19,8 @@ returns c =
     let r2 = r3 .before in
     let r1 = r2 .before in
     let gasket = r1 .before in
-    let width = gasket .before in
+    let rib = gasket .before in
+    let width = rib .before in
     let allowance = width .before in
     let diameter = allowance .before in
     let unstressed = diameter .before in
@@ -34,13 +36,16 @@ returns c =
     let k5 = next-cause 6 (r5 .or-cause5 .ensures) k4 (diameter .diameter-refused .ensures) in
     let k6 = next-cause 7 (r6 .or-cause6 .ensures) k5 (allowance .allowance-refused .ensures) in
     let k7 = next-cause 8 (r7 .or-cause7 .ensures) k6 (width .width-refused .ensures) in
-    let k8 = next-cause 9 (c .or-cause8 .ensures) k7 (gasket .gasket-refused .ensures) in
-    k8 ∙ in-order ofNumbers (flangeLimits (stress .before .args .s)) tt
+    let k8 = next-cause 17 (r8 .or-cause8 .ensures) k7 (rib .rib-refused .ensures) in
+    let k9 = next-cause 9 (c .or-cause9 .ensures) k8 (gasket .gasket-refused .ensures) in
+    k9 ∙ in-order ofNumbers (flangeLimits (stress .before .args .s)) tt
 
 pub flange-limits-spec : {M : Type 1} → statement M
 flange-limits-spec =
     tie.close
     (tie.spec
+    (λ c κs. search needs)
+    (λ c κs. search needs)
     (λ c κs. search needs)
     (λ c κs. search needs)
     (λ c κs. search needs)

@@ -6,13 +6,17 @@ use Rattle.lines.proofs.blind_flange.blind_flange_field.Statement.{stat
 use Rattle.lines.proofs.blind_flange.blind_flange_field.Tie as tie
 
 -- the index is one of theirs
-no-other : tie.Need-returns-15
-no-other c = absurd (omega (arith, past-all 14 (c .before .before .args .i) (c .match .rest)))
+no-other : tie.Need-returns-17
+no-other c = absurd (omega (arith, past-all 16 (c .before .before .args .i) (c .match .rest)))
 
 pub blind-flange-field-spec : {M : Type 1} → statement M
 blind-flange-field-spec =
     tie.close
     (tie.spec
+    (λ c. search needs)
+    (λ c κs. search needs)
+    (λ c. search needs)
+    (λ c κs. search needs)
     (λ c. search needs)
     (λ c κs. search needs)
     (λ c. search needs)
@@ -55,4 +59,6 @@ blind-flange-field-spec =
     (λ c. rw (c .before .before .match .keys12) (c .number-line12 .ensures))
     (λ c. rw (c .before .before .match .keys13) (c .number-line13 .ensures))
     (λ c. rw (c .before .before .match .keys14) (c .number-line14 .ensures))
+    (λ c. rw (c .before .before .match .keys15) (c .number-line15 .ensures))
+    (λ c. rw (c .before .before .match .keys16) (c .number-line16 .ensures))
     no-other)

@@ -18,7 +18,7 @@ use Rattle.rules.proofs.sizing.blind_flange_sizing.Tie as tie
 returns : tie.Need-returns
 returns c = sizings.flange-refused _ (c .before .flange-limits .ensures) (c .if1 .taken)
 
--- none of 2 to 9 applies
+-- none of 2 to 9 and 17 applies
 limits : (c : tie.Else1) → 0 ≡ firstCause (flangeLimits (c .before .before .args .s))
 limits c = sym (c .if1 .left) ∙ c .before .flange-limits .ensures
 
