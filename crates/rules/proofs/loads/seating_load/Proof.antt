@@ -8,7 +8,7 @@ use Rattle.rules.proofs.loads.seating_load.Tie as tie
 
 returns : tie.Need-returns
 unfolding seatingLoad exactSeatingLoad
-returns c = search needs
+returns c = c .ceil-div .ensures
 
 products : (c : tie.Start) → let a = c .args in GasketProducts (a .g) (a .b) (a .rib) (a .br) (a .y) (a .y)
 products c =
