@@ -22,7 +22,7 @@ static unsigned long endplate(uint32_t place)
     return (unsigned long)scantling_endplate(2, 1, 1, 150, 1000, 5000, 100, plates, sizeof plates, place);
 }
 
-/* The blind flange of examples/blind-flange.sheet. */
+/* The blind flange of examples/blind-flange.sheet: the two zeros after the width say that it has no rib. */
 static unsigned long blind_flange(uint32_t place)
 {
     return (unsigned long)scantling_blind_flange(

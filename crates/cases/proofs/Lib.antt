@@ -4,3 +4,6 @@ mod EmptyPrograms
 mod ConstantNeed
 mod GreatestDiameter
 mod PassPartitionRibs
+mod LineByItself
+mod OldBlindSheets
+mod RenewedSheets

@@ -1,5 +1,5 @@
--- The limits that the numbers of a sheet keep to (document 01): causes 2 to 12 and 17 of both parts. 13, the bolts do not carry, and
--- 14, no plate, are worked from the loads and the total, in the crate rules.
+-- The limits that the numbers of a sheet keep to (documents 01 and 02): causes 2 to 12 and 17. 13, the bolts do not carry,
+-- and 14, no plate, are worked from the loads and the total, in the crate rules.
 use Prim.Native.Nat.{ℕ, _+_, _*_}
 use mathlib.Core.Bool.{not, Bool·beq}
 use mathlib.Core.List.{[], _∷_, _++_}

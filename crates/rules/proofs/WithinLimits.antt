@@ -1,5 +1,5 @@
--- What the numbers of a sheet keep to where none of the causes 2 to 12 and 17 applies. The bounds are wider than the limits, which
--- stand in the crate limits alone. Assumes nothing.
+-- What the numbers of a sheet keep to where none of the causes 2 to 12 and 17 applies. The bounds are wider than the limits,
+-- which stand in the crate limits alone. Assumes nothing.
 use mathlib.Core.Path.{_≡_}
 use mathlib.Core.Logic.{_≢_}
 use mathlib.Core.List.{_++_}

@@ -1,5 +1,5 @@
-// The gasket: effective width b, diameter of the gasket load reaction G, and the loads of its ring and rib, worked once for
-// a sheet.
+// The gasket: effective width b, diameter of the gasket load reaction G, and the loads of ring and rib, worked once for a
+// sheet.
 use crate::BlindFlangeSheet;
 use crate::loads::operating_load;
 use crate::loads::seating_load;
