@@ -19,7 +19,7 @@
 
 static void differ(size_t number, const char *who, uint64_t figure)
 {
-    printf("difference: number to hold %lu (from 1): the document has %" PRIu64 ", %s %" PRIu64 "\n",
+    printf("difference: number to hold %lu (from 1): it is %" PRIu64 ", %s %" PRIu64 "\n",
            (unsigned long)number + 1, known_cases[number].figure, who, figure);
     exit(1);
 }
