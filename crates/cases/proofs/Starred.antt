@@ -67,6 +67,7 @@ end form material shell temp pressure =
 abbrev pub sized : String → String → String → List ℕ
 sized F T total = textOf (F ∷ T ∷ total ∷ "plate=3000" ∷ [])
 
+-- the printed sheet, which has gained the lines rib=0 and ribw=0 (document 02, R-4)
 abbrev pub blindSheet : List String
 blindSheet =
     "part=blind"

@@ -13,11 +13,11 @@ use Rattle.rules.specs.declared.gasket.Gasket.{Gasket}
 
 -- ---- exact: fractions multiplied out to whole numbers
 
--- V1: exact Wm1 times 10¹⁰. The rib adds 2·br·rib·m·P
+-- V1: exact Wm1 times 10¹⁰, the rib's 2·b·length·m·P included
 unfoldable pub exactOperatingLoad : ℕ → ℕ → ℕ → ℕ → ℕ → ℕ → ℕ
 exactOperatingLoad G b rib br m P = 78500 * (G * G) * P + 628 * b * G * m * P + 200 * br * rib * m * P
 
--- V2: exact Wm2 times 10⁶. The rib adds br·rib·y
+-- V2: exact Wm2 times 10⁶, the rib's b·length·y included
 unfoldable pub exactSeatingLoad : ℕ → ℕ → ℕ → ℕ → ℕ → ℕ
 exactSeatingLoad G b rib br y = 314 * b * G * y + 100 * br * rib * y
 
