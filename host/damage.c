@@ -267,7 +267,7 @@ static void other_key(struct rng *rng, struct text *text)
     insert(text, line.start, keys[rng_below(rng, sizeof keys / sizeof keys[0])]);
 }
 
-/* The two lines after the width gone, with which a blind sheet has no rib and ribw. */
+/* The eighth and ninth line gone: rib and ribw of a blind sheet, which leaves it in the form before R-4. */
 static void no_rib_lines(struct rng *rng, struct text *text)
 {
     struct line rib = line_at(text, 7), rib_width = line_at(text, 8);

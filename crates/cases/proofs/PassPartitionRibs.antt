@@ -185,11 +185,14 @@ unfolding printed ribbed column designStress ceilDiv wholeRootBy leastRoot least
     smallestServing blindFlangeAnswer
 rib-loads-bolts = refl
 
+-- 17 refuses each of its cases, and at both limits does not apply: there these bolts do not carry
 rib-refused :
     (withRib 4900 0 ≡ Refused 17 0)
     × (withRib 0 100 ≡ Refused 17 0)
     × (withRib 40001 100 ≡ Refused 17 0)
     × (withRib 4900 501 ≡ Refused 17 0)
-unfolding printed ribbed column designStress firstOf flangeLimits boltsCauses blindFlangeCauses blindFlangeSizing
-    smallestServing blindFlangeAnswer
-rib-refused = (refl, refl, refl, refl)
+    × (withRib 40000 500 ≡ Refused 13 0)
+unfolding printed ribbed column designStress ceilDiv wholeRootBy leastRoot leastRootOver wideWidth effectiveWidth
+    reactionDiameter exactOperatingLoad exactSeatingLoad operatingLoad seatingLoad gasketOf boltsSufficient firstOf
+    flangeLimits boltsCauses blindFlangeCauses blindFlangeSizing smallestServing blindFlangeAnswer
+rib-refused = (refl, refl, refl, refl, refl)

@@ -45,8 +45,8 @@ PutIn n numbers (fault k) lines = Unit
 PutIn n numbers (given v plates) lines = lines ≡ given (take n v ++ (numbers ++ drop n v)) plates
 
 -- a key without LF
-abbrev plain : Field → Bool
-plain field = eqb (indexOf lineFeed (ascii (field .0))) (length (ascii (field .0)))
+abbrev withoutLf : Field → Bool
+withoutLf field = eqb (indexOf lineFeed (ascii (field .0))) (length (ascii (field .0)))
 
 ahead-put :
     (numbers : List ℕ) (line x n : ℕ) (rest rest' : Lines) {number : Number} →
@@ -62,14 +62,14 @@ module _
     (put : (line : ℕ) (t : List ℕ) → PutIn 0 numbers (linesOf line gs t) (linesOf line hs (bytes ++ t))) where
   put-in :
       (fs : List Field) →
-      T (every plain fs) →
+      T (every withoutLf fs) →
       (line : ℕ) (t : List ℕ) →
       let n = length fs in
       PutIn n numbers (linesOf line (fs ++ gs) t) (linesOf line (fs ++ hs) (putIn n bytes t))
   unfolding linesOf
   put-in [] p line t = put line t
   put-in (f ∷ fs) p line t =
-      let q = both (plain f) (every plain fs) p in
+      let q = both (withoutLf f) (every withoutLf fs) p in
       rw (after-line (before lineFeed t) (lacks-before t) (putIn (length fs) bytes (after lineFeed t)))
       (by-number (fieldOf f t) refl (linesOf (line + 1) (fs ++ gs) (after lineFeed t)) _
       (put-in fs (q .1) (line + 1) (after lineFeed t)))
@@ -84,7 +84,7 @@ module _
           (ahead line (fieldOf f (before lineFeed t ++ lineFeed ∷ putIn (length fs) bytes (after lineFeed t))) rest')
       by-number (Value x) e rest rest' r =
           let key = ascii (f .0) in
-          let k = eqb-true _ _ (is-true (plain f) (both (plain f) (every plain fs) p .0)) in
+          let k = eqb-true _ _ (is-true (withoutLf f) (both (withoutLf f) (every withoutLf fs) p .0)) in
           let whole = apart t (lf-found key t (is-line key (f .1) t x e)) in
           let same =
           line-same (before lineFeed t) (lacks-before t) key _ (after lineFeed t) k (f .1)
