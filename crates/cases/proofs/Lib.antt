@@ -3,6 +3,7 @@ mod Starred
 mod EmptyPrograms
 mod ConstantNeed
 mod GreatestDiameter
+mod OtherLoads
 mod PassPartitionRibs
 mod LineByItself
 mod OldBlindSheets

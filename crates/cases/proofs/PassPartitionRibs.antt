@@ -1,14 +1,13 @@
 -- Pass partition ribs (R-4): without a rib every answer to numbers is the former one. Assumes nothing.
-use Prim.Native.Nat.{ℕ, _+_, _*_, max}
-use mathlib.Core.Bool.{not}
-use mathlib.Core.List.{List, [], _∷_, _++_}
+use Prim.Native.Nat.{ℕ, _+_, _*_}
+use mathlib.Core.List.{List, [], _∷_}
 use mathlib.Core.Path.{_≡_, refl, ap, _∙_}
 use native.Mathlib.Omega.{arith}
 use Rattle.tables.specs.DesignStress.{column, designStress}
 use Rattle.root.specs.Root.{ceilDiv, wholeRootBy, leastRoot, leastRootOver}
 use Rattle.plates.specs.Plates.{smallestServing}
 use Rattle.limits.specs.Causes.{Causes, firstOf, firstCause}
-use Rattle.limits.specs.Limits.{endplateCauses, flangeLimits, boltsLimits, boltStressLimits}
+use Rattle.limits.specs.Limits.{endplateCauses, flangeLimits}
 use Rattle.limits.specs.Laws.{number-idle}
 use Rattle.limits.specs.declared.EndplateSheet.{EndplateSheet}
 use Rattle.limits.specs.declared.BlindFlangeSheet.{BlindFlangeSheet}
@@ -24,6 +23,7 @@ use Rattle.rules.specs.Answer.{blindFlangeUnless, blindFlangeSizing, blindFlang
 use Rattle.rules.specs.declared.BlindFlangeFigures.{BlindFlangeFigures}
 use Rattle.rules.specs.declared.Answer.{Answer}
 use Rattle.rules.specs.declared.Answer.the-variants.{Refused}
+use Rattle.cases.proofs.OtherLoads.{figuresWith, causesWith}
 
 -- ---- the former definitions: no rib in the loads, no 17 in checking order
 
@@ -45,19 +45,7 @@ formerFigures s =
     let Wm2 = seatingLoad (formerSeatingLoad s) in
     let W = flangeLoad Wm1 Wm2 (boltArea (s .root) (s .count)) (s .sa) (s .sb) in
     let e = flangeThickness S G (s .pressure) (s .circle) Wm1 in
-    let edge = edgeThickness S S0 G (s .circle) Wm1 W in
-    record {
-      «design_stress» = S;
-      «ambient_stress» = S0;
-      «reaction_diameter» = G;
-      «effective_width» = effectiveWidth (s .width);
-      «operating_load» = Wm1;
-      «seating_load» = Wm2;
-      «flange_load» = W;
-      thickness = e;
-      «edge_thickness» = edge;
-      total = max e edge + s .allowance;
-    }
+    figuresWith s Wm1 Wm2 W e (edgeThickness S S0 G (s .circle) Wm1 W)
 
 abbrev formerOrder : List ℕ
 formerOrder = 2 ∷ 3 ∷ 4 ∷ 5 ∷ 6 ∷ 7 ∷ 8 ∷ 9 ∷ 10 ∷ 11 ∷ 12 ∷ 13 ∷ 14 ∷ []
@@ -66,11 +54,7 @@ formerOrder = 2 ∷ 3 ∷ 4 ∷ 5 ∷ 6 ∷ 7 ∷ 8 ∷ 9 ∷ 10 ∷ 11 ∷ 12 �
 abbrev causesUnder : ℕ → ℕ → BlindFlangeSheet → Causes
 causesUnder V1 V2 s =
     let A = boltArea (s .root) (s .count) in
-    flangeLimits s
-    ++ boltStressLimits s
-    ++ boltsLimits s (reactionDiameter (s .od) (s .width)) (s .bolt) (s .root) (s .count)
-    ++ (13, not (boltsSufficient (operatingLoad V1) (seatingLoad V2) A (s .sa) (s .sb)) ∷ [])
-    ∷ []
+    causesWith s (boltsSufficient (operatingLoad V1) (seatingLoad V2) A (s .sa) (s .sb))
 
 abbrev formerCause : BlindFlangeSheet → ℕ
 formerCause s = firstOf formerOrder (causesUnder (formerOperatingLoad s) (formerSeatingLoad s) s)
