@@ -13,6 +13,7 @@
 #include <string.h>
 
 #define LIMIT_ROUNDS 20 /* questions of each limit and step */
+#define THIN_ROUNDS 10000 /* thin blind flanges */
 #define ROOT_ROUNDS 1500 /* of each binary length: so many numbers, and so many squares with their neighbours */
 
 /* ---- Numbers to hold ---- */
@@ -95,16 +96,22 @@ static void compare_known(struct compare *compare)
 
 /* ---- Limits ---- */
 
+/* These numbers with some plates, as numbers and as a sheet. */
+static void compare_both(struct compare *compare, struct question *question)
+{
+    static struct text text;
+    draw_plates(&compare->rng, 0, PAPER_SHEET_PLATES, question);
+    write_sheet(question, &text);
+    compare_question(compare, question);
+    compare_sheet(compare, &text);
+}
+
 static void compare_limit(struct compare *compare, const struct limit *limit, int step)
 {
     static struct question question;
-    static struct text text;
     for (int round = 0; round < LIMIT_ROUNDS; round++) {
         draw_limit(&compare->rng, limit, step, &question);
-        draw_plates(&compare->rng, 0, PAPER_SHEET_PLATES, &question);
-        write_sheet(&question, &text);
-        compare_question(compare, &question);
-        compare_sheet(compare, &text);
+        compare_both(compare, &question);
     }
 }
 
@@ -113,6 +120,17 @@ static void compare_limits(struct compare *compare)
     for (size_t i = 0; i < limit_count; i++)
         for (int step = -1; step <= 1; step++)
             compare_limit(compare, &limits[i], step);
+}
+
+/* ---- Thin flanges ---- */
+
+static void compare_thin(struct compare *compare)
+{
+    static struct question question;
+    for (int round = 0; round < THIN_ROUNDS; round++) {
+        draw_thin_flange(&compare->rng, &question);
+        compare_both(compare, &question);
+    }
 }
 
 /* ---- Least roots ---- */
@@ -167,6 +185,9 @@ static void print_counts(const struct compare *compare)
     printf("%" PRIu64 " numeric calls, %" PRIu64 " sheets, %" PRIu64 " other spaces, %" PRIu64 " roots, %" PRIu64
            " accuracy checks\n",
            compare->calls, compare->sheets, compare->spaces, compare->roots, compare->accuracy);
+    printf("of the accuracy checks %" PRIu64 " on flanges of 0.50 to 4.00 mm, %" PRIu64
+           " on bolts that would not carry whole newtons\n",
+           compare->thin, compare->fraction);
     print_causes("numeric questions", compare->question_accepted, compare->question_causes);
     print_causes("sheets", compare->sheet_accepted, compare->sheet_causes);
     printf("no difference\n");
@@ -195,6 +216,7 @@ int main(int argc, char **argv)
     fflush(stdout);
     compare_known(&compare);
     compare_limits(&compare);
+    compare_thin(&compare);
     compare_roots(&compare);
     while (compare.calls < calls)
         compare_drawn_question(&compare);

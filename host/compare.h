@@ -12,6 +12,8 @@ struct compare {
     uint64_t spaces;   /* further calls with a sheet, in spaces of other lengths */
     uint64_t roots;
     uint64_t accuracy; /* accepted answers judged by the exact inequalities */
+    uint64_t thin;     /* of them, blind flanges with a need or an edge from 0.50 mm to 4.00 mm */
+    uint64_t fraction; /* and those whose bolts carry the loads in tenths and would not carry them in whole newtons */
     uint64_t question_accepted[PARTS], sheet_accepted[PARTS];
     uint64_t question_causes[CAUSES]; /* what the numeric calls were asked, by cause */
     uint64_t sheet_causes[CAUSES];    /* likewise; CAUSE_SPACE counts the short spaces */
@@ -20,6 +22,9 @@ struct compare {
 /* All places of a question or some of them. */
 void compare_question(struct compare *compare, const struct question *question);
 void compare_drawn_question(struct compare *compare);
+
+/* An accepted answer is to be judged: the counts above. */
+void count_accuracy(struct compare *compare, enum part part, const uint32_t *numbers, const uint64_t *figures);
 
 /* A sheet in a space that no report exceeds; now and then in shorter ones too. */
 void compare_sheet(struct compare *compare, const struct text *text);

@@ -44,6 +44,28 @@ static void compare_place(struct compare *compare, const struct asking *asking, 
     exit(1);
 }
 
+static int is_thin(uint64_t thickness)
+{
+    return thickness >= 50 && thickness < 400;
+}
+
+/* A load in tenths, rounded up to the newton. */
+static uint64_t to_newton(uint64_t load)
+{
+    return (load + 9) / 10 * 10;
+}
+
+void count_accuracy(struct compare *compare, enum part part, const uint32_t *numbers, const uint64_t *figures)
+{
+    const uint64_t area = (uint64_t)numbers[BLIND_COUNT] * numbers[BLIND_ROOT];
+    compare->accuracy++;
+    if (part != PART_BLIND)
+        return;
+    compare->thin += is_thin(figures[BLIND_THICKNESS_PLACE]) || is_thin(figures[BLIND_EDGE_THICKNESS_PLACE]);
+    compare->fraction += area * numbers[BLIND_SB] < to_newton(figures[BLIND_OPERATING_LOAD_PLACE]) ||
+                         area * numbers[BLIND_SA] < to_newton(figures[BLIND_SEATING_LOAD_PLACE]);
+}
+
 /* The figures judged are the archive's: their places were compared. */
 static void judge_question(struct compare *compare, const struct asking *asking)
 {
@@ -51,7 +73,7 @@ static void judge_question(struct compare *compare, const struct asking *asking)
     const struct paper_part *part = &paper_parts[question->part];
     if (asking->figures[PLACE_CAUSE] != CAUSE_NONE)
         return;
-    compare->accuracy++;
+    count_accuracy(compare, question->part, question->numbers, asking->figures);
     compare->question_accepted[question->part]++;
     if (part->exact(question->numbers, asking->figures))
         return;

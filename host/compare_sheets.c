@@ -80,9 +80,9 @@ static void judge_report(struct compare *compare, const struct sheet *sheet, con
     const struct paper_part *part = &paper_parts[sheet->answer.part];
     if (sheet->answer.figures[PLACE_CAUSE] != CAUSE_NONE)
         return;
-    compare->accuracy++;
     for (uint32_t place = PLACE_REPORT; place <= part->last_place; place++)
         figures[place] = report_figure(report, sheet->report_length, part->report_keys[place]);
+    count_accuracy(compare, sheet->answer.part, sheet->answer.numbers, figures);
     if (part->exact(sheet->answer.numbers, figures))
         return;
     printf("not exact:\n");

@@ -19,8 +19,8 @@
 #define PRINTED(place, figure) BLIND(100, 0, 0, 20, place, figure)
 
 /*
- * The printed flange with a rib of 490 mm by 10 mm. Its b is 5 mm, so that it adds 2 * 5 * 490 * 2 * 1 = 9800 N to the
- * 219250.5 N of Wm1, and 5 * 490 * 11 = 26950 N to the 84623 N of Wm2.
+ * The printed flange with a rib of 490 mm by 10 mm. Its b is 5 mm, so that it adds 2 * 5 * 490 * 2 * 1 = 9800.0 N to the
+ * 219250.5 N of Wm1, and 5 * 490 * 11 = 26950.0 N to the 84623.0 N of Wm2.
  */
 #define RIBBED(place, figure) BLIND(100, 4900, 100, 20, place, figure)
 
@@ -49,15 +49,15 @@ const struct known known_cases[] = {
     PRINTED(BLIND_AMBIENT_STRESS_PLACE, 108),
     PRINTED(BLIND_REACTION_DIAMETER_PLACE, 4900),
     PRINTED(BLIND_EFFECTIVE_WIDTH_PLACE, 500),
-    PRINTED(BLIND_OPERATING_LOAD_PLACE, 219251),
-    PRINTED(BLIND_SEATING_LOAD_PLACE, 84623),
-    PRINTED(BLIND_FLANGE_LOAD_PLACE, 289626),
+    PRINTED(BLIND_OPERATING_LOAD_PLACE, 2192505),
+    PRINTED(BLIND_SEATING_LOAD_PLACE, 846230),
+    PRINTED(BLIND_FLANGE_LOAD_PLACE, 2896253),
     PRINTED(BLIND_THICKNESS_PLACE, 3073),
     PRINTED(BLIND_EDGE_THICKNESS_PLACE, 1913),
     PRINTED(BLIND_TOTAL_PLACE, 3173),
     PRINTED(BLIND_PLATE_PLACE, 3200),
-    RIBBED(BLIND_OPERATING_LOAD_PLACE, 229051),
-    RIBBED(BLIND_SEATING_LOAD_PLACE, 111573),
+    RIBBED(BLIND_OPERATING_LOAD_PLACE, 2290505),
+    RIBBED(BLIND_SEATING_LOAD_PLACE, 1115730),
     BLIND(100, 4900, 0, 20, PLACE_CAUSE, 17),
     BLIND(100, 0, 100, 20, PLACE_CAUSE, 17),
 };
@@ -77,7 +77,7 @@ const char known_sheet[] =
     "circle=5600\nbolt=20\nroot=2250\ncount=16\nsa=100\nsb=100\nplates=2500,3200,4000\n";
 
 const char known_report[] =
-    "stress=108\ncold=108\ng=4900\nb=500\nwm1=219251\nwm2=84623\nw=289626\nneed=3073\nedge=1913\ntotal=3173\n"
+    "stress=108\ncold=108\ng=4900\nb=500\nwm1=2192505\nwm2=846230\nw=2896253\nneed=3073\nedge=1913\ntotal=3173\n"
     "plate=3200\n";
 
 const char known_empty_report[] = "refused=1\nplace=1\n";

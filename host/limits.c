@@ -29,6 +29,7 @@ const struct limit limits[] = {
     RULE(CIRCLE, CIRCLE_AT_OD), RULE(CIRCLE, CIRCLE_AT_G),
     BLIND(BOLT, 12), BLIND(BOLT, 76),
     BLIND(ROOT, 1), RULE(ROOT, ROOT_AT_BOLT), RULE(ROOT, ROOT_AT_OPERATING), RULE(ROOT, ROOT_AT_SEATING),
+    RULE(ROOT, ROOT_IN_OPERATING_TENTHS), RULE(ROOT, ROOT_IN_SEATING_TENTHS),
     BLIND(COUNT, 4), BLIND(COUNT, 100),
     BLIND(SA, 1), BLIND(SA, 400), RULE(SA, SA_AT_SB),
     BLIND(SB, 1), BLIND(SB, 400),
@@ -66,6 +67,20 @@ static struct wish wish_for(struct rng *rng, const struct limit *limit, int step
     case ROOT_AT_SEATING:
         wish.numbers[BLIND_PRESSURE] = 1; /* hardly any operating load */
         break;
+    case ROOT_IN_OPERATING_TENTHS:
+        wish.numbers[BLIND_OD] = rng_between(rng, 540, 4000);
+        wish.numbers[BLIND_PRESSURE] = rng_between(rng, 1, 50);
+        wish.numbers[BLIND_Y] = 0;
+        wish.numbers[BLIND_COUNT] = rng_between(rng, 4, 9);
+        wish.numbers[BLIND_SB] = 1;
+        break;
+    case ROOT_IN_SEATING_TENTHS:
+        wish.numbers[BLIND_OD] = rng_between(rng, 540, 4000);
+        wish.numbers[BLIND_PRESSURE] = 1;
+        wish.numbers[BLIND_Y] = rng_between(rng, 1, 6);
+        wish.numbers[BLIND_COUNT] = rng_between(rng, 4, 9);
+        wish.numbers[BLIND_SA] = 1;
+        break;
     default:
         break;
     }
@@ -86,9 +101,10 @@ static u128 limit_value(enum limit_rule rule, const uint32_t *n)
     case CIRCLE_AT_G:
         return 3 * gasket.reaction_diameter / 2;
     case ROOT_AT_OPERATING:
-        return paper_least_quotient(n[BLIND_COUNT] * n[BLIND_SB], 10 * gasket.operating_load);
+    case ROOT_IN_OPERATING_TENTHS:
+        return paper_least_quotient(n[BLIND_COUNT] * n[BLIND_SB], gasket.operating_load);
     default:
-        return paper_least_quotient(n[BLIND_COUNT] * n[BLIND_SA], 10 * gasket.seating_load);
+        return paper_least_quotient(n[BLIND_COUNT] * n[BLIND_SA], gasket.seating_load);
     }
 }
 

@@ -14,8 +14,10 @@ enum limit_rule {
     SA_AT_SB,          /* sa = 4 sb */
     CIRCLE_AT_OD,      /* C = od + 10 bolt */
     CIRCLE_AT_G,       /* 2 C = 3 G */
-    ROOT_AT_OPERATING, /* A sb = 10 Wm1 */
-    ROOT_AT_SEATING    /* A sa = 10 Wm2 */
+    ROOT_AT_OPERATING, /* A sb = Wm1 */
+    ROOT_AT_SEATING,   /* A sa = Wm2 */
+    ROOT_IN_OPERATING_TENTHS, /* A sb = Wm1, in steps of under a newton: mostly short of Wm1 in whole newtons */
+    ROOT_IN_SEATING_TENTHS    /* A sa = Wm2, likewise */
 };
 
 struct limit {

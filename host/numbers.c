@@ -74,7 +74,7 @@ static void draw_endplate(struct rng *rng, const int64_t *wish, uint32_t *n)
 /* The least root area whose bolts carry the load, all of them at this stress. */
 static uint32_t carrying_root(u128 load, u128 count, u128 stress)
 {
-    return count * stress == 0 ? 1 : (uint32_t)paper_least_quotient(count * stress, 10 * load);
+    return count * stress == 0 ? 1 : (uint32_t)paper_least_quotient(count * stress, load);
 }
 
 /* The least root area whose bolts carry both loads. */
@@ -149,6 +149,18 @@ void draw_numbers(struct rng *rng, enum part part, const struct wish *wish, stru
 {
     question->part = part;
     draws[part](rng, wish->numbers, question->numbers);
+}
+
+void draw_thin_flange(struct rng *rng, struct question *question)
+{
+    struct wish wish = wish_nothing();
+    wish.numbers[BLIND_PRESSURE] = rng_between(rng, 1, rng_between(rng, 1, 60));
+    wish.numbers[BLIND_OD] = rng_between(rng, 540, 2000);
+    wish.numbers[BLIND_RIB] = 0;
+    wish.numbers[BLIND_Y] = rng_below(rng, 4);
+    wish.numbers[BLIND_SA] = rng_between(rng, 1, rng_between(rng, 1, 20));
+    draw_numbers(rng, PART_BLIND, &wish, question);
+    question->numbers[BLIND_ROOT] = sufficient_root(question->numbers) + rng_between(rng, 1, 20);
 }
 
 static uint32_t draw_plate(struct rng *rng, uint32_t total, const struct question *question)

@@ -26,6 +26,9 @@ void question_figures(const struct question *question, uint64_t figures[PAPER_PL
 /* Numbers that meet no cause before 13, wherever the wish leaves room for it. The plates stay as they were. */
 void draw_numbers(struct rng *rng, enum part part, const struct wish *wish, struct question *question);
 
+/* A blind flange with need and edge of a few mm at most: a small cover, little pressure, bolts just strong enough. */
+void draw_thin_flange(struct rng *rng, struct question *question);
+
 /* least to most plates about the total of the numbers, some far away. */
 void draw_plates(struct rng *rng, uint32_t least, uint32_t most, struct question *question);
 

@@ -1,6 +1,6 @@
 /*
- * The separate calculation: flat endplates and blind flanges worked from document 01 alone, in 128-bit integers and the
- * document's units. Every "least whole number with ..." is a search on the inequality as the document writes it.
+ * The separate calculation: flat endplates and blind flanges worked from documents 01 and 02 alone, in 128-bit integers and
+ * the documents' units. Every "least whole number with ..." is a search on the inequality as the document writes it.
  */
 #ifndef PAPER_H
 #define PAPER_H
@@ -61,8 +61,8 @@ struct paper_gasket {
     u128 effective_width;     /* b */
     u128 rib_effective_width; /* b of the rib, 0 without one */
     u128 reaction_diameter;   /* G */
-    u128 operating_load;      /* Wm1 */
-    u128 seating_load;        /* Wm2 */
+    u128 operating_load;      /* Wm1, tenths of a newton */
+    u128 seating_load;        /* Wm2, likewise */
 };
 struct paper_gasket paper_gasket(const uint32_t n[BLIND_NUMBERS]);
 

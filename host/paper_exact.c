@@ -7,6 +7,7 @@
 #include "paper.h"
 
 #define LARGEST 1000000 /* hundredths of a mm */
+#define NEAR_FROM 50    /* likewise */
 
 #define TEN_5 UINT64_C(100000)
 #define TEN_10 UINT64_C(10000000000)
@@ -38,11 +39,11 @@ struct exact_flange {
     u128 reaction_diameter; /* G */
     u128 overhang;          /* C - G */
     u128 sb;
-    u128 operating_load;    /* V1, exact Wm1 times 10^10 */
-    u128 flange_load;       /* V, exact W times 2 * 10^11 * sb */
+    u128 operating_load;    /* V1, exact Wm1 in newtons, times 10^10 */
+    u128 flange_load;       /* V, exact W in newtons, times 2 * 10^11 * sb */
 };
 
-/* seating_load is V2, exact Wm2 times 10^6. The rib's parts are 2 * b * rib * m * P and b * rib * y. */
+/* seating_load is V2, exact Wm2 in newtons, times 10^6. The rib's parts are 2 * b * rib * m * P and b * rib * y. */
 static struct exact_flange exact_flange(const uint32_t n[])
 {
     const struct paper_gasket gasket = paper_gasket(n);
@@ -85,7 +86,7 @@ static int edge_holds(const struct exact_flange *flange, u128 edge)
                954500 * flange->operating_load * flange->overhang;
 }
 
-/* Where 4.00 mm or more is printed, no whole number smaller by 2 or more holds. */
+/* Where NEAR_FROM or more is printed, no whole number smaller by 2 or more holds. */
 int paper_blind_flange_exact(const uint32_t n[], const uint64_t figures[PAPER_PLACES])
 {
     const struct exact_flange flange = exact_flange(n);
@@ -94,7 +95,7 @@ int paper_blind_flange_exact(const uint32_t n[], const uint64_t figures[PAPER_PL
         return 0;
     if (!thickness_holds(&flange, thickness) || !edge_holds(&flange, edge_thickness))
         return 0;
-    if (thickness >= 400 && thickness_holds(&flange, thickness - 2))
+    if (thickness >= NEAR_FROM && thickness_holds(&flange, thickness - 2))
         return 0;
-    return edge_thickness < 400 || !edge_holds(&flange, edge_thickness - 2);
+    return edge_thickness < NEAR_FROM || !edge_holds(&flange, edge_thickness - 2);
 }

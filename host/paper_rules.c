@@ -100,8 +100,8 @@ static u128 effective_width(u128 width)
 }
 
 /*
- * From od, n (width), rib, ribw, m, y and P. The rib's part of Wm1 is 2 * b * rib * m * P / 10^8 newtons, that of Wm2
- * b * rib * y / 10^4.
+ * From od, n (width), rib, ribw, m, y and P. The rib's part of Wm1 is 2 * b * rib * m * P / 10^7 tenths of a newton, that
+ * of Wm2 b * rib * y / 10^3.
  */
 struct paper_gasket paper_gasket(const uint32_t n[BLIND_NUMBERS])
 {
@@ -113,10 +113,10 @@ struct paper_gasket paper_gasket(const uint32_t n[BLIND_NUMBERS])
     gasket.rib_effective_width = rib_b;
     gasket.reaction_diameter = reaction_diameter;
     gasket.operating_load = paper_least_quotient(
-        UINT64_C(10000000000),
+        1000000000,
         78500 * reaction_diameter * reaction_diameter * pressure + 628 * b * reaction_diameter * m * pressure +
             100 * (2 * rib_b * rib * m * pressure));
-    gasket.seating_load = paper_least_quotient(1000000, 314 * b * reaction_diameter * y + 100 * (rib_b * rib * y));
+    gasket.seating_load = paper_least_quotient(100000, 314 * b * reaction_diameter * y + 100 * (rib_b * rib * y));
     return gasket;
 }
 
@@ -130,15 +130,15 @@ static u128 bolt_area(const uint32_t n[])
 static int bolts_sufficient(const uint32_t n[], const struct paper_gasket *gasket)
 {
     const u128 sa = n[BLIND_SA], sb = n[BLIND_SB];
-    return bolt_area(n) * sb >= 10 * gasket->operating_load && bolt_area(n) * sa >= 10 * gasket->seating_load;
+    return bolt_area(n) * sb >= gasket->operating_load && bolt_area(n) * sa >= gasket->seating_load;
 }
 
 /* W, for bolts that meet neither 10 nor 11. */
 static uint64_t flange_load(const uint32_t n[], const struct paper_gasket *gasket)
 {
     const u128 sa = n[BLIND_SA], sb = n[BLIND_SB];
-    const u128 operating = 10 * gasket->operating_load * sa, seating = 10 * gasket->seating_load * sb;
-    return paper_least_quotient(20 * sb, (operating > seating ? operating : seating) + bolt_area(n) * sa * sb);
+    const u128 operating = gasket->operating_load * sa, seating = gasket->seating_load * sb;
+    return paper_least_quotient(2 * sb, (operating > seating ? operating : seating) + bolt_area(n) * sa * sb);
 }
 
 /* The need e, from S, G, P, Wm1 and C, of a blind flange that meets none of the causes 2 to 12. */
@@ -149,7 +149,7 @@ static uint64_t blind_flange_thickness(const uint32_t n[], const struct paper_ga
     return paper_least_root(
         100 * design_stress * reaction_diameter,
         3 * reaction_diameter * reaction_diameter * reaction_diameter * pressure +
-            954500 * gasket->operating_load * (circle - reaction_diameter));
+            95450 * gasket->operating_load * (circle - reaction_diameter));
 }
 
 /* The edge, from S0, S, G, W, Wm1 and C, of a blind flange that meets none of the causes 2 to 12. */
@@ -159,9 +159,9 @@ static uint64_t blind_flange_edge_thickness(const uint32_t n[], const struct pap
     const u128 ambient_stress = paper_design_stress(n[BLIND_MATERIAL], 50);
     const u128 circle = n[BLIND_CIRCLE], reaction_diameter = gasket->reaction_diameter;
     uint64_t ambient =
-        paper_least_root(100 * ambient_stress * reaction_diameter, 954500 * load * (circle - reaction_diameter));
+        paper_least_root(100 * ambient_stress * reaction_diameter, 95450 * load * (circle - reaction_diameter));
     uint64_t operating = paper_least_root(
-        100 * design_stress * reaction_diameter, 954500 * gasket->operating_load * (circle - reaction_diameter));
+        100 * design_stress * reaction_diameter, 95450 * gasket->operating_load * (circle - reaction_diameter));
     return ambient > operating ? ambient : operating;
 }
 

@@ -50,13 +50,13 @@ static void put_about(enum vector_kind kind, uint64_t n, uint64_t by)
 /* What the loads and thicknesses of document 01's printed cases are worked from: b is 500, C - G 700. */
 static void put_printed(void)
 {
-    const uint64_t reaction_diameter = 4900, operating_load = 219251, flange_load = 289626; /* G, Wm1, W */
-    const uint64_t ten_10 = UINT64_C(10000000000), d_squared = 25000000;
+    const uint64_t reaction_diameter = 4900, operating_load = 2192505, flange_load = 2896253; /* G, Wm1, W */
+    const uint64_t ten_9 = 1000000000, d_squared = 25000000;
     put_pair(KIND_QUOTIENT,
-             78500 * reaction_diameter * reaction_diameter * 1000 + 628 * 500 * reaction_diameter * 200000, ten_10);
-    put_pair(KIND_QUOTIENT, 314 * 500 * reaction_diameter * 110, 1000000);
-    put_pair(KIND_QUOTIENT, 10 * operating_load * 100 + 36000 * 10000, 2000);
-    put_about(KIND_QUOTIENT, operating_load * ten_10, ten_10);
+             78500 * reaction_diameter * reaction_diameter * 1000 + 628 * 500 * reaction_diameter * 200000, ten_9);
+    put_pair(KIND_QUOTIENT, 314 * 500 * reaction_diameter * 110, 100000);
+    put_pair(KIND_QUOTIENT, operating_load * 100 + 36000 * 10000, 200);
+    put_about(KIND_QUOTIENT, operating_load * ten_9, ten_9);
     put_about(KIND_ROOT_OVER, 1000 * d_squared, 40 * 108);
     put_about(KIND_ROOT_OVER, 1080 * d_squared, 40 * 108);
     put_pair(KIND_ROOT_OVER, 1081 * d_squared, 40 * 108);
@@ -66,10 +66,10 @@ static void put_printed(void)
     put_pair(KIND_ROOT_OVER, 31752 * 127, 1000);
     put_about(KIND_ROOT_OVER, 31752 * 500, 1000);
     put_pair(KIND_ROOT_OVER,
-             3 * reaction_diameter * reaction_diameter * reaction_diameter * 1000 + 954500 * operating_load * 700,
+             3 * reaction_diameter * reaction_diameter * reaction_diameter * 1000 + 95450 * operating_load * 700,
              100 * 108 * reaction_diameter);
-    put_pair(KIND_ROOT_OVER, 954500 * flange_load * 700, 100 * 108 * reaction_diameter);
-    put_pair(KIND_ROOT_OVER, 954500 * operating_load * 700, 100 * 108 * reaction_diameter);
+    put_pair(KIND_ROOT_OVER, 95450 * flange_load * 700, 100 * 108 * reaction_diameter);
+    put_pair(KIND_ROOT_OVER, 95450 * operating_load * 700, 100 * 108 * reaction_diameter);
 }
 
 static void put_small(void)
@@ -254,6 +254,16 @@ static void put_drawn(struct rng *rng, int count, int wild, uint32_t most, void 
     }
 }
 
+static void put_thin(struct rng *rng, int count, void (*put_it)(const struct question *))
+{
+    static struct question question;
+    for (int i = 0; i < count; i++) {
+        draw_thin_flange(rng, &question);
+        draw_plates(rng, 1, 4, &question);
+        put_it(&question);
+    }
+}
+
 /* ---- Sheets alone ---- */
 
 struct change {
@@ -352,6 +362,7 @@ static void put_sheets(struct rng *rng)
     put_drawn(rng, 14, 0, 4, put_sheet);
     put_drawn(rng, 4, 0, PAPER_SHEET_PLATES, put_sheet);
     put_drawn(rng, 4, 1, 2, put_sheet);
+    put_thin(rng, 10, put_sheet);
 }
 
 void make_vectors(void)
@@ -369,6 +380,7 @@ void make_vectors(void)
     put_drawn(&rng, 60, 0, 4, put_question);
     put_drawn(&rng, 6, 0, 49, put_question);
     put_drawn(&rng, 44, 1, 3, put_question);
+    put_thin(&rng, 30, put_question);
     put_sheets(&rng);
     put_drawn(&rng, 6, 0, LONG_LIST, put_question);
 }

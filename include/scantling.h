@@ -47,9 +47,9 @@ enum scantling_blind_flange_place {
     SCANTLING_BLIND_FLANGE_AMBIENT_STRESS = 3,    /* cold, S0, at 50 degrees C: N/mm2 */
     SCANTLING_BLIND_FLANGE_REACTION_DIAMETER = 4, /* g, G: tenths of a mm */
     SCANTLING_BLIND_FLANGE_EFFECTIVE_WIDTH = 5,   /* b: hundredths of a mm */
-    SCANTLING_BLIND_FLANGE_OPERATING_LOAD = 6,    /* wm1: N */
-    SCANTLING_BLIND_FLANGE_SEATING_LOAD = 7,      /* wm2: N */
-    SCANTLING_BLIND_FLANGE_FLANGE_LOAD = 8,       /* w: N */
+    SCANTLING_BLIND_FLANGE_OPERATING_LOAD = 6,    /* wm1: tenths of a newton */
+    SCANTLING_BLIND_FLANGE_SEATING_LOAD = 7,      /* wm2: tenths of a newton */
+    SCANTLING_BLIND_FLANGE_FLANGE_LOAD = 8,       /* w: tenths of a newton */
     SCANTLING_BLIND_FLANGE_THICKNESS = 9,         /* need: hundredths of a mm */
     SCANTLING_BLIND_FLANGE_EDGE_THICKNESS = 10,   /* edge: hundredths of a mm */
     SCANTLING_BLIND_FLANGE_TOTAL = 11,            /* greater of both, and allowance: hundredths of a mm */

@@ -82,9 +82,9 @@ not-refused (Endplate f plate) n e = (refl, refl)
 not-refused (BlindFlange f plate) n e = (refl, refl)
 not-refused (Answer·Refused cause figure) n e = absurd (omega (arith, e))
 
-printed-outcome : outcomeOf printedSheet space ≡ Report 105
+printed-outcome : outcomeOf printedSheet space ≡ Report 108
 unfolding outcomeOf
-printed-outcome = rw printed-report (not-refused (answerOf printedSheet) 105 (rw printed-report) .1)
+printed-outcome = rw printed-report (not-refused (answerOf printedSheet) 108 (rw printed-report) .1)
 
 -- the needs of the two ends, read out of their reports
 need-1080 : printed "need" (reportFor (endAt "pressure=1080")) ≡ Value 2500
@@ -150,7 +150,7 @@ module _ (f : Program) (promise : Promise f) where
   pub invented-length : (n : ℕ) (space : List ℕ) → ((text : List ℕ) → lengthOf (f text space .0) ≡ n) → ⊥
   invented-length n space says =
       let one : 43 ≡ n = ap length (sym end-1080) ∙ sym (promise .0 (endAt "pressure=1080") space .size) ∙ says _ in
-      let two : 105 ≡ n = ap length (sym printed-report) ∙ sym (promise .0 printedSheet space .size) ∙ says _ in
+      let two : 108 ≡ n = ap length (sym printed-report) ∙ sym (promise .0 printedSheet space .size) ∙ says _ in
       omega arith
 
   -- saying "no plate" before looking: 3200 serves

@@ -8,3 +8,4 @@ mod PassPartitionRibs
 mod LineByItself
 mod OldBlindSheets
 mod RenewedSheets
+mod LoadsInTenths

@@ -159,10 +159,11 @@ printed = record {
 abbrev withRib : ℕ → ℕ → Answer
 withRib rib width = blindFlangeAnswer (ribbed rib width printed) (2500 ∷ 3200 ∷ 4000 ∷ [])
 
--- its b is 5 mm: Wm1 grows by 2·5·490·2·1 = 9800 N from 219250.5 N, Wm2 by 5·490·11 = 26950 N from 84623 N
+-- its b is 5 mm: Wm1 grows by 2·5·490·2·1 = 9800.0 N from 219250.5 N, Wm2 by 5·490·11 = 26950.0 N from
+-- 84623.0 N
 rib-loads-bolts :
     reportOf (withRib 4900 100)
-    ≡ 108 ∷ 108 ∷ 4900 ∷ 500 ∷ 229051 ∷ 111573 ∷ 294526 ∷ 3093 ∷ 1929 ∷ 3193 ∷ 3200 ∷ []
+    ≡ 108 ∷ 108 ∷ 4900 ∷ 500 ∷ 2290505 ∷ 1115730 ∷ 2945253 ∷ 3093 ∷ 1929 ∷ 3193 ∷ 3200 ∷ []
 unfolding printed ribbed column designStress ceilDiv wholeRootBy leastRoot leastRootOver wideWidth effectiveWidth
     reactionDiameter exactOperatingLoad exactSeatingLoad operatingLoad seatingLoad flangeLoad gasketOf boltsSufficient
     flangeThickness edgeUnder blindFlangeFigures firstOf flangeLimits boltsCauses blindFlangeCauses blindFlangeSizing

@@ -47,11 +47,11 @@ module _
     (pos : 0 < k)
     (low : X ≤ k * W)
     (high : k * W ≤ X + r)
-    (sum : y ≡ z + 954500 * W * lever)
+    (sum : y ≡ z + 95450 * W * lever)
     (least : Least (Reaches y a) e) where
-  pub loaded : 954500 * r * lever ≤ k * a * leastStep → Near (λ t. k * z + 954500 * X * lever ≤ k * a * (t * t)) e
+  pub loaded : 95450 * r * lever ≤ k * a * leastStep → Near (λ t. k * z + 95450 * X * lever ≤ k * a * (t * t)) e
   loaded =
-      rounded k a y (k * z + 954500 * X * lever) (954500 * r * lever) e pos least
+      rounded k a y (k * z + 95450 * X * lever) (95450 * r * lever) e pos least
       (rw sum (omega (arith, mul-le-mul-right lever low)))
       (rw sum (omega (arith, mul-le-mul-right lever high)))
 

@@ -69,12 +69,12 @@ module _ (s : BlindFlangeSheet) (none : firstCause (blindFlangeCauses s) ≡ 0) 
   unfolding gasketOf
   diameter = circle s f a {gasket = gasketOf s} refl
 
-  -- Wm1 is at most 1 N too much
-  slack-operating : 954500 * 10 ^ 10 * lever ≤ 10 ^ 10 * (100 * S * G) * leastStep
+  -- Wm1 is at most a tenth of a newton too much
+  slack-operating : 95450 * 10 ^ 9 * lever ≤ 10 ^ 9 * (100 * S * G) * leastStep
   slack-operating = omega (arith, mul-le-mul-right G (stress .least), a .circle-most)
 
-  -- W is at most 3 N too much
-  slack-ambient : 954500 * (6 * 10 ^ 11 * s .sb) * lever ≤ 2 * 10 ^ 11 * s .sb * (100 * S0 * G) * leastStep
+  -- W is at most three tenths too much
+  slack-ambient : 95450 * (6 * 10 ^ 10 * s .sb) * lever ≤ 2 * 10 ^ 10 * s .sb * (100 * S0 * G) * leastStep
   slack-ambient =
       omega (
         arith,
@@ -92,7 +92,7 @@ module _ (s : BlindFlangeSheet) (none : firstCause (blindFlangeCauses s) ≡ 0) 
   unfolding blindFlangeFigures gasketOf
   thickness-near =
       near-map (λ t. omega arith)
-      (loaded (10 ^ 10) (100 * S * G) (3 * (G * G * G) * s .pressure) Wm1 V1 (10 ^ 10) lever _ _
+      (loaded (10 ^ 9) (100 * S * G) (3 * (G * G * G) * s .pressure) Wm1 V1 (10 ^ 9) lever _ _
       (omega arith) (operating-low V1) (operating-high V1) refl
       (flangeThickness-least S G (s .pressure) (s .circle) Wm1 (omega (arith, stress .least)) (diameter .least))
       slack-operating)
@@ -100,7 +100,7 @@ module _ (s : BlindFlangeSheet) (none : firstCause (blindFlangeCauses s) ≡ 0) 
   edge-operating : Near (OperatingEdgeHolds S G (s .circle) V1) (edgeUnder S G (s .circle) Wm1)
   edge-operating =
       near-map (λ t. omega arith)
-      (loaded (10 ^ 10) (100 * S * G) 0 Wm1 V1 (10 ^ 10) lever _ _
+      (loaded (10 ^ 9) (100 * S * G) 0 Wm1 V1 (10 ^ 9) lever _ _
       (omega arith) (operating-low V1) (operating-high V1) (omega arith)
       (edgeUnder-least S G (s .circle) Wm1 (omega (arith, stress .least)) (diameter .least))
       slack-operating)
@@ -114,7 +114,7 @@ module _ (s : BlindFlangeSheet) (none : firstCause (blindFlangeCauses s) ≡ 0) 
   edge-ambient : Near (AmbientEdgeHolds (s .sb) S0 G (s .circle) (exactFlangeLoadOf s)) (edgeUnder S0 G (s .circle) W)
   edge-ambient =
       near-map (λ t. omega arith)
-      (loaded (2 * 10 ^ 11 * s .sb) (100 * S0 * G) 0 W (exactFlangeLoadOf s) (6 * 10 ^ 11 * s .sb) lever _ _
+      (loaded (2 * 10 ^ 10 * s .sb) (100 * S0 * G) 0 W (exactFlangeLoadOf s) (6 * 10 ^ 10 * s .sb) lever _ _
       (omega (arith, a .sb-least))
       (flange-low V1 (exactSeatingLoadOf s) A (s .sa) (s .sb) (a .sb-least) (a .ratio))
       (flange-high V1 (exactSeatingLoadOf s) A (s .sa) (s .sb) (a .sb-least) (a .ratio))

@@ -19,6 +19,7 @@ use Rattle.rules.specs.BlindFlange.{moment, flangeLoading, flangeThickne
 use Rattle.rules.specs.BlindFlange.{flangeThickness-least, edgeUnder-least}
 use Rattle.rules.specs.Gasket.{narrow, wideWidth, wideWidth-least, effectiveWidth, reactionDiameter}
 use Rattle.rules.specs.Loads.{exactOperatingLoad, exactSeatingLoad, operatingLoad, seatingLoad, flangeLoad}
+use Rattle.rules.specs.Loads.{flangeLoad-least}
 use Rattle.rules.proofs.ProductsFit.{gasket-products}
 
 -- ---- the gasket
@@ -56,7 +57,7 @@ pub operatingLoad-most :
     operatingLoad (exactOperatingLoad G b rib br m P) ≤ mostGasketLoad
 unfolding operatingLoad exactOperatingLoad
 operatingLoad-most hG hb hrib hbr hm hP =
-    ceilDiv-le _ (10 ^ 10) mostGasketLoad (omega arith) .1 (omega (arith, gasket-products hG hb hrib hbr hm hP))
+    ceilDiv-le _ (10 ^ 9) mostGasketLoad (omega arith) .1 (omega (arith, gasket-products hG hb hrib hbr hm hP))
 
 pub seatingLoad-most :
     {G b rib br y : ℕ} →
@@ -68,7 +69,7 @@ pub seatingLoad-most :
     seatingLoad (exactSeatingLoad G b rib br y) ≤ mostGasketLoad
 unfolding seatingLoad exactSeatingLoad
 seatingLoad-most hG hb hrib hbr hy =
-    ceilDiv-le _ (10 ^ 6) mostGasketLoad (omega arith) .1 (omega (arith, gasket-products hG hb hrib hbr hy hy))
+    ceilDiv-le _ (10 ^ 5) mostGasketLoad (omega arith) .1 (omega (arith, gasket-products hG hb hrib hbr hy hy))
 
 -- sa ≤ 4·sb bounds W by the other loads and the area
 pub flangeLoad-most :
@@ -76,10 +77,9 @@ pub flangeLoad-most :
     sa ≤ mostBoltStress →
     1 ≤ sb →
     sa ≤ 4 * sb →
-    flangeLoad Wm1 Wm2 A sa sb ≤ 2 * Wm1 + Wm2 + 26 * A
-unfolding flangeLoad
+    flangeLoad Wm1 Wm2 A sa sb ≤ 2 * Wm1 + Wm2 + 256 * A
 flangeLoad-most Wm1 Wm2 A sa sb ha hb ratio =
-    ceilDiv-le _ (20 * sb) (2 * Wm1 + Wm2 + 26 * A) (omega arith) .1
+    least-most (2 * Wm1 + Wm2 + 256 * A) (flangeLoad-least Wm1 Wm2 A sa sb hb)
     (omega (arith, mul-le-mul-left Wm1 ratio, mul-le-mul-left (A * sb) ha))
 
 -- ---- the stress of an endplate

@@ -1,6 +1,6 @@
 -- Thicknesses of a blind flange (document 01; 004, Figure 4), in hundredths of a mm, each with the law that it is the
 -- least of its inequality. Stresses in N/mm², P in thousandths of N/mm², G and the bolt circle C in tenths of a mm, loads
--- in N.
+-- in tenths of a newton.
 use Prim.Native.Nat.{ℕ, _+_, _-_, _*_, max, _≤_, _<_}
 use mathlib.Core.Path.{_≡_, refl}
 use native.Mathlib.Nat.{mul-le-mul}
@@ -9,18 +9,18 @@ use Rattle.root.specs.Least.{_≥_, Least}
 use Rattle.root.specs.Root.{leastRootOver}
 use Rattle.root.specs.Laws.{leastRootOver-least}
 
--- 954500·W·(C − G), for a load
+-- 95450·W·(C − G), for a load
 abbrev pub moment : ℕ → ℕ → ℕ → ℕ
-moment W C G = 954500 * W * (C - G)
+moment W C G = 95450 * W * (C - G)
 
--- what the need is worked from: 3·G³·P + 954500·Wm1·(C − G)
+-- what the need is worked from: 3·G³·P + 95450·Wm1·(C − G)
 abbrev pub flangeLoading : ℕ → ℕ → ℕ → ℕ → ℕ
 flangeLoading G P C Wm1 = 3 * (G * G * G) * P + moment Wm1 C G
 
 pub flange-factor : (S G : ℕ) → 1 ≤ S → 1 ≤ G → 0 < 100 * S * G
 flange-factor S G hS hG = omega (arith, mul-le-mul hS hG)
 
--- e, the need: the least with 100·S·G·e² ≥ 3·G³·P + 954500·Wm1·(C − G)
+-- e, the need: the least with 100·S·G·e² ≥ 3·G³·P + 95450·Wm1·(C − G)
 unfoldable pub flangeThickness : ℕ → ℕ → ℕ → ℕ → ℕ → ℕ
 flangeThickness S G P C Wm1 = leastRootOver (flangeLoading G P C Wm1) (100 * S * G)
 
@@ -29,12 +29,12 @@ pub flangeThickness-least :
     1 ≤ S →
     1 ≤ G →
     Least
-    (λ e. 100 * S * G * (e * e) ≥ 3 * (G * G * G) * P + 954500 * Wm1 * (C - G))
+    (λ e. 100 * S * G * (e * e) ≥ 3 * (G * G * G) * P + 95450 * Wm1 * (C - G))
     (flangeThickness S G P C Wm1)
 unfolding flangeThickness
 flangeThickness-least S G P C Wm1 hS hG = leastRootOver-least _ (100 * S * G) (flange-factor S G hS hG)
 
--- one of the two edges: the least with 100·S·G·edge² ≥ 954500·W·(C − G), for a stress and a load
+-- one of the two edges: the least with 100·S·G·edge² ≥ 95450·W·(C − G), for a stress and a load
 unfoldable pub edgeUnder : ℕ → ℕ → ℕ → ℕ → ℕ
 edgeUnder S G C W = leastRootOver (moment W C G) (100 * S * G)
 
@@ -42,7 +42,7 @@ pub edgeUnder-least :
     (S G C W : ℕ) →
     1 ≤ S →
     1 ≤ G →
-    Least (λ edge. 100 * S * G * (edge * edge) ≥ 954500 * W * (C - G)) (edgeUnder S G C W)
+    Least (λ edge. 100 * S * G * (edge * edge) ≥ 95450 * W * (C - G)) (edgeUnder S G C W)
 unfolding edgeUnder
 edgeUnder-least S G C W hS hG = leastRootOver-least _ (100 * S * G) (flange-factor S G hS hG)
 
@@ -54,8 +54,8 @@ edgeThickness S S0 G C Wm1 W = max (edgeUnder S0 G C W) (edgeUnder S G C Wm1)
 pub record GreaterEdge (S S0 G C Wm1 W edge : ℕ) : Type 0 where
   pub ambient : ℕ
   pub operating : ℕ
-  pub ambient-least : Least (λ t. 100 * S0 * G * (t * t) ≥ 954500 * W * (C - G)) ambient
-  pub operating-least : Least (λ t. 100 * S * G * (t * t) ≥ 954500 * Wm1 * (C - G)) operating
+  pub ambient-least : Least (λ t. 100 * S0 * G * (t * t) ≥ 95450 * W * (C - G)) ambient
+  pub operating-least : Least (λ t. 100 * S * G * (t * t) ≥ 95450 * Wm1 * (C - G)) operating
   pub greater : edge ≡ max ambient operating
 
 pub edgeThickness-greater :

@@ -50,13 +50,13 @@ mostArea = 2 ^ 24
 abbrev pub mostBoltStress : ℕ
 mostBoltStress = 2 ^ 9
 
--- Wm1 and Wm2, N
+-- Wm1 and Wm2, tenths of a newton
 abbrev pub mostGasketLoad : ℕ
-mostGasketLoad = 2 ^ 27
+mostGasketLoad = 2 ^ 30
 
--- W, and whatever load a thickness is worked under, N
+-- W, and whatever load a thickness is worked under, tenths of a newton
 abbrev pub mostLoad : ℕ
-mostLoad = 2 ^ 30
+mostLoad = 2 ^ 33
 
 -- a need or an edge, hundredths of a mm: the root of what fits
 abbrev pub mostThickness : ℕ

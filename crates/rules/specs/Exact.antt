@@ -33,9 +33,9 @@ OperatingEdgeHolds S G C V1 edge = 10 ^ 12 * S * G * (edge * edge) ≥ 954500 * 
 
 -- ---- the demand
 
--- 4.00 mm: printed so or above, a need or an edge is less than 0.02 mm above the least exact thickness
+-- 0.50 mm: printed so or above, a need or an edge is less than 0.02 mm above the least exact thickness
 abbrev pub nearFrom : ℕ
-nearFrom = 400
+nearFrom = 50
 
 -- r satisfies P whatever its size, and from there on no whole number lower by 2 or more does
 pub record Near (P : ℕ → Type 0) (r : ℕ) : Type 0 where

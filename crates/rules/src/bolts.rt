@@ -15,5 +15,5 @@ pub(crate) fn bolts_sufficient(operating: u64, seating: u64, area: u64, sa: u32,
     requires { ⌜ BoltsBounded operating seating area sa sb ⌝ }
     ensures { λ r. ⌜ r ≡ boltsSufficient operating seating area sa sb ⌝ }
 {
-    (10 * operating <= area * (sb as u64)) & (10 * seating <= area * (sa as u64))
+    (operating <= area * (sb as u64)) & (seating <= area * (sa as u64))
 }

@@ -16,9 +16,9 @@ pub(crate) struct Gasket {
     pub reaction_diameter: u32,
     // b: hundredths of a mm.
     pub effective_width: u64,
-    // wm1: N.
+    // wm1: tenths of a newton.
     pub operating_load: u64,
-    // wm2: N.
+    // wm2: tenths of a newton.
     pub seating_load: u64,
 }
 

@@ -42,11 +42,11 @@ pub struct BlindFlangeFigures {
     pub reaction_diameter: u64,
     // b: hundredths of a mm.
     pub effective_width: u64,
-    // wm1: N.
+    // wm1: tenths of a newton.
     pub operating_load: u64,
-    // wm2: N.
+    // wm2: tenths of a newton.
     pub seating_load: u64,
-    // w: N.
+    // w: tenths of a newton.
     pub flange_load: u64,
     // need, e: hundredths of a mm.
     pub thickness: u64,

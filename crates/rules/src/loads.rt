@@ -1,4 +1,4 @@
-// Bolt loads, in N. The bounds asked for are wider than the limits: with them the products fit.
+// Bolt loads, in tenths of a newton. The bounds asked for are wider than the limits: with them the products fit.
 use crate::compare::greater;
 ghost use mathlib.Core.Path.{_≡_};
 ghost use Prim.Native.Nat.{_≤_};
@@ -19,7 +19,7 @@ pub(crate) fn operating_load(g: u32, b: u64, rib: u32, br: u64, m: u32, pressure
     let end = 78500 * (g * g) * p;
     let ring = 628 * b * g * m * p;
     let rib = 200 * br * (rib as u64) * m * p;
-    root::ceil_div(end + ring + rib, 10000000000)
+    root::ceil_div(end + ring + rib, 1000000000)
 }
 
 // Wm2, of both.
@@ -31,7 +31,7 @@ pub(crate) fn seating_load(g: u32, b: u64, rib: u32, br: u64, y: u32) -> u64
     let y = y as u64;
     let ring = 314 * b * (g as u64) * y;
     let rib = 100 * br * (rib as u64) * y;
-    root::ceil_div(ring + rib, 1000000)
+    root::ceil_div(ring + rib, 100000)
 }
 
 // W, of Wm1, Wm2, A and the bolt stresses.
@@ -41,6 +41,6 @@ pub(crate) fn flange_load(operating: u64, seating: u64, area: u64, sa: u32, sb: 
 {
     let sa = sa as u64;
     let sb = sb as u64;
-    let gasket = greater(10 * operating * sa, 10 * seating * sb);
-    root::ceil_div(gasket + area * sa * sb, 20 * sb)
+    let gasket = greater(operating * sa, seating * sb);
+    root::ceil_div(gasket + area * sa * sb, 2 * sb)
 }

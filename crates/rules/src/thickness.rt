@@ -9,8 +9,8 @@ ghost use Rattle.rules.specs.BlindFlange.{flangeThickness, edgeUnder, ed
 // Form d of an endplate.
 const FORM_D: u32 = 3;
 
-// The factor of a bolt load and its lever C − G.
-const MOMENT: u64 = 954500;
+// The factor of a bolt load, in tenths of a newton, and its lever C − G.
+const MOMENT: u64 = 95450;
 
 // T, the need of an endplate.
 pub(crate) fn endplate_thickness(form: u32, stress: u32, pressure: u32, diameter: u32) -> u64

@@ -15,8 +15,6 @@ pub bolts-sufficient-spec : {M : Type 1} → statement M
 bolts-sufficient-spec =
     tie.close
     (tie.spec
-    (λ c. search needs)
     (λ c. omega (arith, bolt-products (c .pre)))
-    (λ c. search needs)
     (λ c. omega (arith, bolt-products (c .pre)))
     returns)
