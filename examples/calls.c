@@ -40,8 +40,10 @@ int main(void)
         printf("endplate: thickness %lu, plate %lu\n", endplate(SCANTLING_ENDPLATE_THICKNESS),
                endplate(SCANTLING_ENDPLATE_PLATE));
     if (blind_flange(SCANTLING_CAUSE) == SCANTLING_ACCEPTED)
-        printf("blind flange: thickness %lu, edge %lu, plate %lu\n", blind_flange(SCANTLING_BLIND_FLANGE_THICKNESS),
-               blind_flange(SCANTLING_BLIND_FLANGE_EDGE_THICKNESS), blind_flange(SCANTLING_BLIND_FLANGE_PLATE));
+        printf("blind flange: thickness %lu, edge %lu, plate %lu, load %lu.%lu N\n",
+               blind_flange(SCANTLING_BLIND_FLANGE_THICKNESS), blind_flange(SCANTLING_BLIND_FLANGE_EDGE_THICKNESS),
+               blind_flange(SCANTLING_BLIND_FLANGE_PLATE), blind_flange(SCANTLING_BLIND_FLANGE_FLANGE_LOAD) / 10,
+               blind_flange(SCANTLING_BLIND_FLANGE_FLANGE_LOAD) % 10);
     fwrite(report, 1, length, stdout);
     printf("least root of 5000: %lu\n", (unsigned long)scantling_least_root(5000));
     return 0;

@@ -8,4 +8,5 @@ mod PassPartitionRibs
 mod LineByItself
 mod OldBlindSheets
 mod RenewedSheets
+mod WholeNewtons
 mod LoadsInTenths

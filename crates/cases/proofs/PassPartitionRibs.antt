@@ -1,4 +1,5 @@
--- Pass partition ribs (R-4): without a rib every answer to numbers is the former one. Assumes nothing.
+-- Pass partition ribs (R-4): without a rib every answer to numbers is the former one, loads being in tenths of a newton in
+-- both. Assumes nothing.
 use Prim.Native.Nat.{ℕ, _+_, _*_}
 use mathlib.Core.List.{List, [], _∷_}
 use mathlib.Core.Path.{_≡_, refl, ap, _∙_}

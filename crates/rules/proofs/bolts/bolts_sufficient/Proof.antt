@@ -1,7 +1,6 @@
 -- `bolts::bolts_sufficient` meets its contract. Assumes nothing.
 use mathlib.Core.Path.{refl}
 use native.Mathlib.Omega.{arith}
-use borrow.Author.Needs.{needs}
 use Rattle.rules.specs.Bolts.{boltsSufficient}
 use Rattle.rules.proofs.ProductsFit.{bolt-products}
 use Rattle.rules.proofs.bolts.bolts_sufficient.Statement.{statement}
