@@ -8,7 +8,7 @@ use Rattle.rules.proofs.loads.flange_load.Tie as tie
 
 returns : tie.Need-returns
 unfolding flangeLoad
-returns c = rw (← c .before .greater .ensures) (c .ceil-div .ensures)
+returns c = rw (c .before .greater .ensures) at (c .ceil-div .ensures)
 
 pub flange-load-spec : {M : Type 1} → statement M
 flange-load-spec =
