@@ -57,10 +57,10 @@ static uint64_t to_newton(uint64_t load)
 
 void count_accuracy(struct compare *compare, enum part part, const uint32_t *numbers, const uint64_t *figures)
 {
-    const uint64_t area = (uint64_t)numbers[BLIND_COUNT] * numbers[BLIND_ROOT];
     compare->accuracy++;
     if (part != PART_BLIND)
         return;
+    const uint64_t area = (uint64_t)numbers[BLIND_COUNT] * numbers[BLIND_ROOT];
     compare->thin += is_thin(figures[BLIND_THICKNESS_PLACE]) || is_thin(figures[BLIND_EDGE_THICKNESS_PLACE]);
     compare->fraction += area * numbers[BLIND_SB] < to_newton(figures[BLIND_OPERATING_LOAD_PLACE]) ||
                          area * numbers[BLIND_SA] < to_newton(figures[BLIND_SEATING_LOAD_PLACE]);

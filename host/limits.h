@@ -6,16 +6,16 @@
 
 /* How the limit's value is found. */
 enum limit_rule {
-    FIXED,             /* given */
-    WIDTH_AT_OD,       /* 4 width = od */
-    RIB_ALONE,         /* rib from 1 on while ribw is 0 */
-    RIB_WIDTH_ALONE,   /* ribw from 1 on while rib is 0 */
-    ROOT_AT_BOLT,      /* 100 root = 785 bolt^2 */
-    SA_AT_SB,          /* sa = 4 sb */
-    CIRCLE_AT_OD,      /* C = od + 10 bolt */
-    CIRCLE_AT_G,       /* 2 C = 3 G */
-    ROOT_AT_OPERATING, /* A sb = Wm1 */
-    ROOT_AT_SEATING,   /* A sa = Wm2 */
+    FIXED,                    /* given */
+    WIDTH_AT_OD,              /* 4 width = od */
+    RIB_ALONE,                /* rib from 1 on while ribw is 0 */
+    RIB_WIDTH_ALONE,          /* ribw from 1 on while rib is 0 */
+    ROOT_AT_BOLT,             /* 100 root = 785 bolt^2 */
+    SA_AT_SB,                 /* sa = 4 sb */
+    CIRCLE_AT_OD,             /* C = od + 10 bolt */
+    CIRCLE_AT_G,              /* 2 C = 3 G */
+    ROOT_AT_OPERATING,        /* A sb = Wm1 */
+    ROOT_AT_SEATING,          /* A sa = Wm2 */
     ROOT_IN_OPERATING_TENTHS, /* A sb = Wm1, in steps of under a newton: mostly short of Wm1 in whole newtons */
     ROOT_IN_SEATING_TENTHS    /* A sa = Wm2, likewise */
 };
