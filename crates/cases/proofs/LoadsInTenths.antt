@@ -32,9 +32,10 @@ use Rattle.rules.specs.declared.Answer.the-variants.{Endplate, BlindFlange, Ref
 use Rattle.report.specs.Report.{reportText}
 use Rattle.sheet.specs.Sheet.{Sheet, malformed, endplate, blindFlange, sheetOf, answered, answerOf}
 use Rattle.sheet.specs.Outcome.{reportFor}
+use Rattle.capi.specs.Call.{blindFlangeCall}
 use Rattle.cases.proofs.OtherLoads.{causesWith}
 use Rattle.cases.proofs.WholeNewtons.{formerSufficient, formerFigures, formerAnswer, Falls, figures-fall, UnderANewton}
-use Rattle.cases.proofs.WholeNewtons.{sufficient, carry-on, under-a-newton}
+use Rattle.cases.proofs.WholeNewtons.{sufficient, still-sufficient, under-a-newton}
 
 -- ---- answer by answer
 
@@ -115,8 +116,8 @@ module _ (s : BlindFlangeSheet) (plates : List ℕ) where
       smallest total plates .least plate (o .0) (omega (arith, o .1))
 
   -- 13 before, none of 2 to 13 now
-  freed : (f : BlindFlangeFigures) → UnderANewton s → (choice : Choice) → NeverRises s (Refused 13 0) (chosen f choice)
-  freed f short choice = record {
+  newly-sufficient : (f : BlindFlangeFigures) → UnderANewton s → (choice : Choice) → NeverRises s (Refused 13 0) (chosen f choice)
+  newly-sufficient f short choice = record {
     accepted = λ e. absurd (omega (arith, e));
     no-plate = λ e. absurd (omega (arith, e));
     carried = λ e n. (answered-or-14 choice, short);
@@ -156,7 +157,7 @@ module _ (s : BlindFlangeSheet) (plates : List ℕ) where
   by-bolts f f' falls true true on short =
       both f f' falls (smallestServing (f .total) plates) (smallestServing (f' .total) plates)
       (not-above (f .total) (f' .total) (falls .total))
-  by-bolts f f' falls true false on short = freed f (short refl) (smallestServing (f .total) plates)
+  by-bolts f f' falls true false on short = newly-sufficient f (short refl) (smallestServing (f .total) plates)
   by-bolts f f' falls false true on short = absurd (subst T (sym (on refl)) tt)
   by-bolts f f' falls false false on short = unchanged s 13 (λ e. omega (arith, e)) (λ e. omega (arith, e))
 
@@ -186,7 +187,7 @@ module _ (s : BlindFlangeSheet) (plates : List ℕ) where
   unfolding blindFlangeAnswer blindFlangeSizing blindFlangeCauses boltsCauses gasketOf flangeLimits
   never-rises =
       by-cause (blindFlangeFigures s) (formerFigures s) (figures-fall s)
-      (sufficient s) (formerSufficient s) (carry-on s) (under-a-newton s)
+      (sufficient s) (formerSufficient s) (still-sufficient s) (under-a-newton s)
 
 -- ---- of texts
 
@@ -222,26 +223,10 @@ report-kept text u = ap reportText (unmoved (sheetOf text) u)
 
 -- ---- and it happens
 
--- a light cover on four bolts, which carry 15562.8 N. Wm1 is 15562.7 N, which was 15563 N
+-- a light cover on four bolts, which carry 15562.8 N; numbers in the order of the sheet's lines. Wm1 is 15562.7 N, which was
+-- 15563 N
 lightCover : BlindFlangeSheet
-lightCover = record {
-  material = 1;
-  temperature = 150;
-  pressure = 200;
-  allowance = 100;
-  od = 3150;
-  width = 100;
-  rib = 0;
-  «rib_width» = 0;
-  m = 50;
-  y = 14;
-  circle = 3450;
-  bolt = 16;
-  root = 1441;
-  count = 4;
-  sa = 54;
-  sb = 27;
-}
+lightCover = blindFlangeCall 1 150 200 100 3150 100 0 0 50 14 3450 16 1441 4 54 27
 
 newly-carried :
     (formerAnswer lightCover (1000 ∷ []) ≡ Refused 13 0)
@@ -255,24 +240,7 @@ newly-carried = (refl, refl)
 
 -- a small cover under little pressure: need, edge, total and plate fall, and a list that had no plate has one
 smallCover : BlindFlangeSheet
-smallCover = record {
-  material = 1;
-  temperature = 100;
-  pressure = 20;
-  allowance = 0;
-  od = 1000;
-  width = 100;
-  rib = 0;
-  «rib_width» = 0;
-  m = 50;
-  y = 0;
-  circle = 1300;
-  bolt = 12;
-  root = 763;
-  count = 4;
-  sa = 10;
-  sb = 10;
-}
+smallCover = blindFlangeCall 1 100 20 0 1000 100 0 0 50 0 1300 12 763 4 10 10
 
 thinner :
     (reportOf (formerAnswer smallCover (251 ∷ 300 ∷ []))

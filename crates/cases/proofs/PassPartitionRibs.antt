@@ -24,6 +24,7 @@ use Rattle.rules.specs.Answer.{blindFlangeUnless, blindFlangeSizing, blindFlang
 use Rattle.rules.specs.declared.BlindFlangeFigures.{BlindFlangeFigures}
 use Rattle.rules.specs.declared.Answer.{Answer}
 use Rattle.rules.specs.declared.Answer.the-variants.{Refused}
+use Rattle.capi.specs.Call.{blindFlangeCall}
 use Rattle.cases.proofs.OtherLoads.{figuresWith, causesWith}
 
 -- ---- the former definitions: no rib in the loads, no 17 in checking order
@@ -138,24 +139,7 @@ endplate-kept s plates = refl
 -- ---- with a rib: the printed flange of document 01 with one of 490 mm by 10 mm
 
 printed : BlindFlangeSheet
-printed = record {
-  material = 1;
-  temperature = 150;
-  pressure = 1000;
-  allowance = 100;
-  od = 5000;
-  width = 100;
-  rib = 0;
-  «rib_width» = 0;
-  m = 200;
-  y = 110;
-  circle = 5600;
-  bolt = 20;
-  root = 2250;
-  count = 16;
-  sa = 100;
-  sb = 100;
-}
+printed = blindFlangeCall 1 150 1000 100 5000 100 0 0 200 110 5600 20 2250 16 100 100
 
 abbrev withRib : ℕ → ℕ → Answer
 withRib rib width = blindFlangeAnswer (ribbed rib width printed) (2500 ∷ 3200 ∷ 4000 ∷ [])

@@ -205,9 +205,9 @@ module _ (s : BlindFlangeSheet) where
   sufficient = boltsSufficient (Wm1 s) (Wm2 s) (area s) (s .sa) (s .sb)
 
   -- bolts that carried the newtons carry the tenths
-  pub carry-on : formerSufficient s ≡ true → sufficient ≡ true
+  pub still-sufficient : formerSufficient s ≡ true → sufficient ≡ true
   unfolding boltsSufficient
-  carry-on e =
+  still-sufficient e =
       let p = and-eq-true-iff (leb (10 * formerOperatingLoad s) (area s * s .sb)) _ .0 e in
       let operating = leb-true (10 * formerOperatingLoad s) (area s * s .sb) (p .0) in
       let seating = leb-true (10 * formerSeatingLoad s) (area s * s .sa) (p .1) in

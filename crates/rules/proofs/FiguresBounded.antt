@@ -10,7 +10,6 @@ use lib.Dec.{eqb}
 use Rattle.tables.specs.DesignStress.{designStress}
 use Rattle.tables.specs.Laws.{stress-most}
 use Rattle.root.specs.Least.{least-most}
-use Rattle.root.specs.Laws.{ceilDiv-le}
 use Rattle.limits.specs.Stress.{formA, endplateStress}
 use Rattle.rules.specs.Bounds.{mostPressure, mostStress, mostDiameter, mostWidth, mostEffectiveWidth, mostRib}
 use Rattle.rules.specs.Bounds.{mostFactor, mostBoltStress, mostGasketLoad, mostThickness}
@@ -19,7 +18,7 @@ use Rattle.rules.specs.BlindFlange.{moment, flangeLoading, flangeThickne
 use Rattle.rules.specs.BlindFlange.{flangeThickness-least, edgeUnder-least}
 use Rattle.rules.specs.Gasket.{narrow, wideWidth, wideWidth-least, effectiveWidth, reactionDiameter}
 use Rattle.rules.specs.Loads.{exactOperatingLoad, exactSeatingLoad, operatingLoad, seatingLoad, flangeLoad}
-use Rattle.rules.specs.Loads.{flangeLoad-least}
+use Rattle.rules.specs.Loads.{operatingLoad-least, seatingLoad-least, flangeLoad-least}
 use Rattle.rules.proofs.ProductsFit.{gasket-products}
 
 -- ---- the gasket
@@ -55,9 +54,9 @@ pub operatingLoad-most :
     m ≤ mostFactor →
     P ≤ mostPressure →
     operatingLoad (exactOperatingLoad G b rib br m P) ≤ mostGasketLoad
-unfolding operatingLoad exactOperatingLoad
-operatingLoad-most hG hb hrib hbr hm hP =
-    ceilDiv-le _ (10 ^ 9) mostGasketLoad (omega arith) .1 (omega (arith, gasket-products hG hb hrib hbr hm hP))
+operatingLoad-most {G} {b} {rib} {br} {m} {P} hG hb hrib hbr hm hP =
+    least-most mostGasketLoad (operatingLoad-least G b rib br m P)
+    (omega (arith, gasket-products hG hb hrib hbr hm hP))
 
 pub seatingLoad-most :
     {G b rib br y : ℕ} →
@@ -67,9 +66,9 @@ pub seatingLoad-most :
     br ≤ mostEffectiveWidth →
     y ≤ mostFactor →
     seatingLoad (exactSeatingLoad G b rib br y) ≤ mostGasketLoad
-unfolding seatingLoad exactSeatingLoad
-seatingLoad-most hG hb hrib hbr hy =
-    ceilDiv-le _ (10 ^ 5) mostGasketLoad (omega arith) .1 (omega (arith, gasket-products hG hb hrib hbr hy hy))
+seatingLoad-most {G} {b} {rib} {br} {y} hG hb hrib hbr hy =
+    least-most mostGasketLoad (seatingLoad-least G b rib br y)
+    (omega (arith, gasket-products hG hb hrib hbr hy hy))
 
 -- sa ≤ 4·sb bounds W by the other loads and the area
 pub flangeLoad-most :
