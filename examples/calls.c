@@ -29,6 +29,25 @@ static unsigned long blind_flange(uint32_t place)
         1, 150, 1000, 100, 5000, 100, 0, 0, 200, 110, 5600, 20, 2250, 16, 100, 100, plates, sizeof plates, place);
 }
 
+/* The same end from the usual stock: the call takes no list. */
+static unsigned long endplate_standard(uint32_t place)
+{
+    return (unsigned long)scantling_endplate_standard(2, 1, 1, 150, 1000, 5000, 100, place);
+}
+
+/* The same flange from the usual stock. */
+static unsigned long blind_flange_standard(uint32_t place)
+{
+    return (unsigned long)scantling_blind_flange_standard(
+        1, 150, 1000, 100, 5000, 100, 0, 0, 200, 110, 5600, 20, 2250, 16, 100, 100, place);
+}
+
+/* The total of the end, asked for with no plate to choose from. */
+static unsigned long endplate_total(void)
+{
+    return (unsigned long)scantling_endplate(2, 1, 1, 150, 1000, 5000, 100, NULL, 0, SCANTLING_FIGURE);
+}
+
 int main(void)
 {
     static const uint8_t text[] = "part=end\nform=a\n"; /* a sheet that ends too soon */
@@ -44,6 +63,9 @@ int main(void)
                blind_flange(SCANTLING_BLIND_FLANGE_THICKNESS), blind_flange(SCANTLING_BLIND_FLANGE_EDGE_THICKNESS),
                blind_flange(SCANTLING_BLIND_FLANGE_PLATE), blind_flange(SCANTLING_BLIND_FLANGE_FLANGE_LOAD) / 10,
                blind_flange(SCANTLING_BLIND_FLANGE_FLANGE_LOAD) % 10);
+    printf("from the usual stock: endplate %lu, blind flange %lu\n", endplate_standard(SCANTLING_ENDPLATE_PLATE),
+           blind_flange_standard(SCANTLING_BLIND_FLANGE_PLATE));
+    printf("endplate without a plate: total %lu\n", endplate_total());
     fwrite(report, 1, length, stdout);
     printf("least root of 5000: %lu\n", (unsigned long)scantling_least_root(5000));
     return 0;

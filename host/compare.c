@@ -101,6 +101,8 @@ static void compare_both(struct compare *compare, struct question *question)
 {
     static struct text text;
     draw_plates(&compare->rng, 0, PAPER_SHEET_PLATES, question);
+    if (rng_one_in(&compare->rng, 4))
+        draw_standard_plates(&compare->rng, question);
     write_sheet(question, &text);
     compare_question(compare, question);
     compare_sheet(compare, &text);
@@ -188,6 +190,10 @@ static void print_counts(const struct compare *compare)
     printf("of the accuracy checks %" PRIu64 " on flanges of 0.50 to 4.00 mm, %" PRIu64
            " on bolts that would not carry whole newtons\n",
            compare->thin, compare->fraction);
+    printf("%" PRIu64 " numeric questions without a list; sheets in order %" PRIu64 " with a list, %" PRIu64
+           " with the usual stock, %" PRIu64 " with none\n",
+           compare->standard, compare->stocks[PAPER_LISTED], compare->stocks[PAPER_STANDARD],
+           compare->stocks[PAPER_NONE]);
     print_causes("numeric questions", compare->question_accepted, compare->question_causes);
     print_causes("sheets", compare->sheet_accepted, compare->sheet_causes);
     printf("no difference\n");

@@ -20,9 +20,12 @@ static void print_question(const struct asking *asking)
 {
     const struct question *question = asking->question;
     const struct paper_part *part = &paper_parts[question->part];
-    printf("%s:", archive_calls[question->part].name);
+    const struct archive_call *call = &archive_calls[question->part];
+    printf("%s:", question->standard ? call->standard_name : call->name);
     for (size_t i = 0; i < part->numbers; i++)
         printf(" %s=%" PRIu32, part->keys[i], question->numbers[i]);
+    if (question->standard)
+        return;
     printf(" plates=");
     for (size_t i = 0; i < question->plate_count; i++)
         printf(i == 0 ? "%" PRIu32 : ",%" PRIu32, question->plates[i]);
@@ -32,8 +35,10 @@ static void print_question(const struct asking *asking)
 static void compare_place(struct compare *compare, const struct asking *asking, uint32_t place)
 {
     const struct question *question = asking->question;
-    uint64_t archive =
-        archive_calls[question->part].figure(question->numbers, asking->plates, asking->plates_length, place);
+    const struct archive_call *call = &archive_calls[question->part];
+    uint64_t archive = question->standard
+                           ? call->standard(question->numbers, place)
+                           : call->figure(question->numbers, asking->plates, asking->plates_length, place);
     uint64_t separate = place < PAPER_PLACES ? asking->figures[place] : 0;
     compare->calls++;
     if (archive == separate)
@@ -119,7 +124,7 @@ static void compare_some_places(struct compare *compare, const struct asking *as
     compare_place(compare, asking, rng_below(&compare->rng, PAPER_PLACES));
 }
 
-/* The paper's plates are read from the bytes, as the archive's are. */
+/* The paper's plates are read from the bytes, as the archive's are; the call without a list is not given them. */
 void compare_question(struct compare *compare, const struct question *question)
 {
     static uint32_t plates[PLATES_ROOM];
@@ -129,6 +134,7 @@ void compare_question(struct compare *compare, const struct question *question)
     size_t count = paper_plates(asking.plates, asking.plates_length, plates, PLATES_ROOM);
     paper_parts[question->part].work(question->numbers, plates, count, asking.figures);
     compare->question_causes[asking.figures[PLACE_CAUSE]]++;
+    compare->standard += (uint64_t)question->standard;
     if (rng_one_in(&compare->rng, 4))
         compare_all_places(compare, &asking);
     else
@@ -161,5 +167,7 @@ void compare_drawn_question(struct compare *compare)
     draw_plates(rng, 0, most, &question);
     if (rng_one_in(rng, 4))
         spread_plates(rng, &question);
+    if (rng_one_in(rng, 4))
+        draw_standard_plates(rng, &question);
     compare_question(compare, &question);
 }

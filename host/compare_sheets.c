@@ -119,6 +119,8 @@ void compare_sheet(struct compare *compare, const struct text *text)
     compare->sheets++;
     compare->sheet_causes[sheet.answer.figures[PLACE_CAUSE]]++;
     compare->sheet_accepted[sheet.answer.part] += sheet.answer.figures[PLACE_CAUSE] == CAUSE_NONE;
+    if (sheet.answer.figures[PLACE_CAUSE] != CAUSE_LINE)
+        compare->stocks[sheet.answer.stock]++;
     compare_space(compare, &sheet, SCANTLING_LONGEST_REPORT);
     if (rng_one_in(&compare->rng, 4)) {
         compare->spaces++;
@@ -152,6 +154,8 @@ static void draw_sheet(struct rng *rng, struct text *text)
     if (kind == 3)
         draw_wild_numbers(rng, 1000000, &question);
     draw_plates(rng, 0, most, &question);
+    if (rng_one_in(rng, 4))
+        draw_standard_plates(rng, &question);
     write_sheet(&question, text);
     for (; kind >= 4 && kind < 10; kind = rng_one_in(rng, 6) ? 4 : 10)
         damage_text(rng, rng_below(rng, damage_count), text);

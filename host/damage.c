@@ -170,6 +170,17 @@ static void faulty_plates(struct rng *rng, struct text *text)
     insert(text, at, faults[rng_below(rng, sizeof faults / sizeof faults[0])]);
 }
 
+/* What is nearly none, nearly nothing, or a list with either in it. */
+static void other_stock(struct rng *rng, struct text *text)
+{
+    static const char *const words[] = {
+        "", "none", "None", "nonE", "NONE", "non", "nones", "nnone", "none,", ",none", "none,300", "300,none", "none,none",
+        " none", "none ", " ", "none\r", "no\nne", "none\n", "n", "0none", "none0", "\"none\"", "nil", "300,", ","};
+    size_t at = after_byte(text, '=', count_bytes(text, '=') - 1);
+    splice(text, at, value_length(text, at), "", 0);
+    insert(text, at, words[rng_below(rng, sizeof words / sizeof words[0])]);
+}
+
 /* A number of six or seven digits. */
 static void long_number(struct rng *rng, struct text *text)
 {
@@ -251,7 +262,7 @@ static void other_line(struct rng *rng, struct text *text)
 {
     static const char *const lines[] = {
         "part=end\n", "part=blind\n", "form=c\n", "shell=1\n", "dia=5000\n", "od=5000\n", "width=100\n", "rib=0\n",
-        "ribw=0\n", "sb=100\n", "temp=150\n", "plates=2500\n", "refused=1\n", "\n", "=\n", "temp\n"};
+        "ribw=0\n", "sb=100\n", "temp=150\n", "plates=2500\n", "plates=\n", "plates=none\n", "refused=1\n", "\n", "=\n", "temp\n"};
     struct line line = any_line(rng, text);
     splice(text, line.start, rng_one_in(rng, 2) ? line.length : 0, "", 0);
     insert(text, line.start, lines[rng_below(rng, sizeof lines / sizeof lines[0])]);
@@ -297,7 +308,7 @@ static void random_bytes(struct rng *rng, struct text *text)
 
 static void (*const damages[])(struct rng *, struct text *) = {
     change_byte, drop_byte, double_byte, drop_line, double_line, move_line, swap_lines, one_crlf, all_crlf,
-    drop_last_lf, cut_short, many_plates, faulty_plates, long_number, put_before_value, put_after_value, empty_value,
+    drop_last_lf, cut_short, many_plates, faulty_plates, other_stock, long_number, put_before_value, put_after_value, empty_value,
     zero_value, other_word, foreign_byte, upper_case, space_about_equals, other_line, other_key, no_rib_lines,
     trailing_bytes, no_text, random_bytes, long_value};
 const uint32_t damage_count = sizeof damages / sizeof damages[0];

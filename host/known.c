@@ -68,8 +68,7 @@ void known_question(const struct known *known, struct question *question)
     static const uint32_t plates[3] = {2500, 3200, 4000};
     question->part = known->part;
     memcpy(question->numbers, known->numbers, sizeof question->numbers);
-    memcpy(question->plates, plates, sizeof plates);
-    question->plate_count = 3;
+    give_plates(question, plates, 3);
 }
 
 const char known_sheet[] =

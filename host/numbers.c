@@ -1,5 +1,7 @@
 #include "numbers.h"
 
+#include <string.h>
+
 static const uint32_t column_temperatures[] = {50, 100, 150, 175, 200, 225, 250, 275, 300};
 static const uint32_t plate_materials[] = {1, 2, 3, 4, 5, 6, 8, 10};
 
@@ -16,6 +18,20 @@ struct wish wish_nothing(void)
 void question_figures(const struct question *question, uint64_t figures[PAPER_PLACES])
 {
     paper_parts[question->part].work(question->numbers, question->plates, question->plate_count, figures);
+}
+
+void give_plates(struct question *question, const uint32_t *plates, size_t count)
+{
+    if (count > 0)
+        memcpy(question->plates, plates, count * sizeof plates[0]);
+    question->plate_count = count;
+    question->standard = 0;
+}
+
+void give_standard_plates(struct question *question)
+{
+    give_plates(question, paper_standard_plates, PAPER_STANDARD_PLATES);
+    question->standard = 1;
 }
 
 enum part draw_part(struct rng *rng)
@@ -181,12 +197,35 @@ void draw_plates(struct rng *rng, uint32_t least, uint32_t most, struct question
 {
     uint64_t figures[PAPER_PLACES];
     const uint32_t count = rng_between(rng, least, most);
-    question->plate_count = 0;
+    give_plates(question, NULL, 0);
     question_figures(question, figures); /* without plates: cause 14 with the total, or an earlier cause */
     for (uint32_t i = 0; i < count; i++) {
         question->plates[i] = draw_plate(rng, (uint32_t)figures[PLACE_FIGURE], question);
         question->plate_count = i + 1;
     }
+}
+
+void meet_standard_plate(int step, struct question *question)
+{
+    uint64_t figures[PAPER_PLACES];
+    uint32_t *allowance = &question->numbers[question->part == PART_END ? END_ALLOWANCE : BLIND_ALLOWANCE];
+    *allowance = 0;
+    give_plates(question, NULL, 0);
+    question_figures(question, figures);
+    for (size_t i = 0; i < PAPER_STANDARD_PLATES && figures[PLACE_CAUSE] == CAUSE_PLATE; i++) {
+        const int64_t more = (int64_t)paper_standard_plates[i] + step - (int64_t)figures[PLACE_FIGURE];
+        if (more >= 0 && more <= 1000) {
+            *allowance = (uint32_t)more;
+            return;
+        }
+    }
+}
+
+void draw_standard_plates(struct rng *rng, struct question *question)
+{
+    if (rng_one_in(rng, 2))
+        meet_standard_plate((int)rng_below(rng, 3) - 1, question);
+    give_standard_plates(question);
 }
 
 static uint32_t draw_wild(struct rng *rng, uint32_t largest)

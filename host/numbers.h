@@ -12,6 +12,7 @@ struct question {
     uint32_t numbers[BLIND_NUMBERS]; /* by name; an endplate has fewer */
     uint32_t plates[PLATES_ROOM];
     size_t plate_count;
+    int standard; /* the plates are the usual stock: no list is given, and a sheet has nothing after plates= */
 };
 
 /* Values that are to be kept, by number; FREE where any may be drawn. */
@@ -29,8 +30,18 @@ void draw_numbers(struct rng *rng, enum part part, const struct wish *wish, stru
 /* A blind flange with need and edge of a few mm at most: a small cover, little pressure, bolts just strong enough. */
 void draw_thin_flange(struct rng *rng, struct question *question);
 
+/* A list of plates, or the usual stock. plates may be null where count is 0. */
+void give_plates(struct question *question, const uint32_t *plates, size_t count);
+void give_standard_plates(struct question *question);
+
 /* least to most plates about the total of the numbers, some far away. */
 void draw_plates(struct rng *rng, uint32_t least, uint32_t most, struct question *question);
+
+/* The allowance with which the total is the smallest plate of the usual stock that it can be, and step; 0 if there is none. */
+void meet_standard_plate(int step, struct question *question);
+
+/* The usual stock, half the time with such an allowance, of a step of -1, 0 or 1. */
+void draw_standard_plates(struct rng *rng, struct question *question);
 
 /* Replaces some of the numbers by others up to largest, which meet any cause. */
 void draw_wild_numbers(struct rng *rng, uint32_t largest, struct question *question);

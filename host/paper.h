@@ -42,7 +42,11 @@ enum {
 enum { PAPER_PLACES = BLIND_PLATE_PLACE + 9 }; /* of the longer report, and some past it */
 
 #define PAPER_SHEET_PLATES 32
+#define PAPER_STANDARD_PLATES 13
 #define PAPER_REPORT_ROOM 512
+
+/* The usual stock. */
+extern const uint32_t paper_standard_plates[PAPER_STANDARD_PLATES];
 
 /* Table 1: N/mm2; 0 for a dash, for no such material and above 300 degrees. */
 uint32_t paper_design_stress(uint32_t material, uint32_t temperature);
@@ -90,9 +94,13 @@ struct paper_part {
 };
 extern const struct paper_part paper_parts[PARTS]; /* a text of PART_NONE is refused: it has the keys for that alone */
 
-/* What a sheet holds, and its figures by place. Under cause 1 only the figures are to be read. */
+/* What a plates line names: nothing of it yet, a list, the usual stock, no plate. */
+enum paper_stock { PAPER_UNREAD, PAPER_LISTED, PAPER_STANDARD, PAPER_NONE, PAPER_STOCKS };
+
+/* What a sheet holds, and its figures by place. Under cause 1 only the figures and the stock are to be read. */
 struct paper_answer {
     enum part part;
+    enum paper_stock stock;
     uint32_t numbers[BLIND_NUMBERS];
     uint32_t plates[PAPER_SHEET_PLATES];
     size_t plate_count;

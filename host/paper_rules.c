@@ -167,6 +167,9 @@ static uint64_t blind_flange_edge_thickness(const uint32_t n[], const struct pap
 
 /* ---- Plates ---- */
 
+const uint32_t paper_standard_plates[PAPER_STANDARD_PLATES] = {
+    300, 400, 500, 600, 800, 1000, 1200, 1500, 2000, 2500, 3000, 4000, 5000};
+
 /* The smallest plate not below the total; 0 if there is none. A total is never 0, so no plate of 0 serves. */
 static uint64_t serving_plate(const uint32_t *plates, size_t count, uint64_t total)
 {

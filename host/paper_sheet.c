@@ -1,4 +1,4 @@
-/* Document 01: the sheet, cause 1, and the report. */
+/* Document 01: the sheet, cause 1, and the report; document 02: the rib's lines, the empty plate list. */
 #include "paper.h"
 
 #include <string.h>
@@ -90,11 +90,10 @@ static int read_number(struct span text, uint32_t *number)
     return 1;
 }
 
-/* 0 to 32 numbers with commas between. */
-static int read_plates(struct span list, struct paper_answer *answer)
+/* 1 to 32 numbers with commas between. */
+static int read_list(struct span list, struct paper_answer *answer)
 {
-    int more = list.length > 0;
-    answer->plate_count = 0;
+    int more = 1;
     while (more) {
         struct span number = span_before(list, ',', &more);
         if (answer->plate_count == PAPER_SHEET_PLATES)
@@ -105,6 +104,15 @@ static int read_plates(struct span list, struct paper_answer *answer)
             list = span_from(list, number.length + 1);
     }
     return 1;
+}
+
+/* Nothing for the usual stock, the word none for no plate, or a list. */
+static int read_plates(struct span value, struct paper_answer *answer)
+{
+    answer->stock = value.length == 0 ? PAPER_STANDARD : span_is(value, "none") ? PAPER_NONE : PAPER_LISTED;
+    answer->plate_count = answer->stock == PAPER_STANDARD ? PAPER_STANDARD_PLATES : 0;
+    memcpy(answer->plates, paper_standard_plates, answer->plate_count * sizeof answer->plates[0]);
+    return answer->stock != PAPER_LISTED || read_list(value, answer);
 }
 
 static int read_form(struct span text, uint32_t *form)

@@ -37,8 +37,8 @@ static void append_line(struct text *text, const char *key, uint32_t number)
 
 static void append_plates(struct text *text, const struct question *question)
 {
-    append(text, "plates=");
-    for (size_t i = 0; i < question->plate_count; i++) {
+    append(text, question->plate_count == 0 ? "plates=none" : "plates=");
+    for (size_t i = 0; i < question->plate_count && !question->standard; i++) {
         append(text, i == 0 ? "" : ",");
         append_number(text, question->plates[i]);
     }

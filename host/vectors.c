@@ -11,6 +11,7 @@
  *     5 n d = the least q with d * q >= n; 0 if d is 0
  *     6 n = the least r with r * r >= n
  *     7 n a = the least t with a * t * t >= n; 0 if a is 0
+ *     8, 9: as 1 and 2 without the plates, for the calls that take no list
  */
 #include "vectors.h"
 
@@ -61,7 +62,8 @@ static void print_figures(const uint64_t *figures, uint32_t last)
 /* What a kind's lines ask. */
 struct kind {
     void (*work)(const char *line, const struct kind *kind);
-    enum part part;                         /* of a calculation */
+    enum part part;                         /* of a calculation, */
+    int standard;                           /* of the call without a list */
     size_t count;                           /* of the numbers after the kind, 1 or 2, and what is worked from them */
     uint64_t (*answer)(uint64_t, uint64_t);
 };
@@ -80,7 +82,12 @@ static void work_question(const char *line, const struct kind *kind)
     for (size_t i = 0; i < count; i++)
         values[i] =
             numbers.values[i + 1] <= UINT32_MAX ? (uint32_t)numbers.values[i + 1] : (give_up("too large", line), 0);
-    part->work(values, values + part->numbers, count - part->numbers, figures);
+    if (kind->standard && count > part->numbers)
+        give_up("too many numbers", line);
+    if (kind->standard)
+        part->work(values, paper_standard_plates, PAPER_STANDARD_PLATES, figures);
+    else
+        part->work(values, values + part->numbers, count - part->numbers, figures);
     printf("%s =", line);
     print_figures(figures, figures[PLACE_CAUSE] == CAUSE_NONE ? part->last_place : PLACE_FIGURE);
     printf(" :");
@@ -160,6 +167,8 @@ static const struct kind kinds[KINDS] = {
     [KIND_QUOTIENT] = {.work = work_numbers, .count = 2, .answer = quotient},
     [KIND_ROOT] = {.work = work_numbers, .count = 1, .answer = root},
     [KIND_ROOT_OVER] = {.work = work_numbers, .count = 2, .answer = root_over},
+    [KIND_ENDPLATE_STANDARD] = {.work = work_question, .part = PART_END, .standard = 1},
+    [KIND_BLIND_FLANGE_STANDARD] = {.work = work_question, .part = PART_BLIND, .standard = 1},
 };
 
 static void work_line(const char *line)

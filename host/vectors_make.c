@@ -110,10 +110,12 @@ static void put_ends(void)
 static void put_question(const struct question *question)
 {
     static const enum vector_kind kinds[PARTS] = {[PART_END] = KIND_ENDPLATE, [PART_BLIND] = KIND_BLIND_FLANGE};
-    printf("%d", (int)kinds[question->part]);
+    static const enum vector_kind standard_kinds[PARTS] = {
+        [PART_END] = KIND_ENDPLATE_STANDARD, [PART_BLIND] = KIND_BLIND_FLANGE_STANDARD};
+    printf("%d", (int)(question->standard ? standard_kinds : kinds)[question->part]);
     for (size_t i = 0; i < paper_parts[question->part].numbers; i++)
         printf(" %" PRIu32, question->numbers[i]);
-    for (size_t i = 0; i < question->plate_count; i++)
+    for (size_t i = 0; i < question->plate_count && !question->standard; i++)
         printf(" %" PRIu32, question->plates[i]);
     printf("\n");
 }
@@ -176,16 +178,18 @@ static void put_mends(
     void (*put_it)(const struct question *))
 {
     static struct question question;
+    static const uint32_t plate = 4000;
     question.part = part;
-    question.plate_count = 0;
+    give_plates(&question, NULL, 0);
     memcpy(question.numbers, numbers, sizeof question.numbers);
     put_it(&question);
     for (size_t i = 0; i < count; i++) {
         question.numbers[mends[i].number] = mends[i].value;
         put_it(&question);
     }
-    question.plates[0] = 4000;
-    question.plate_count = 1;
+    give_plates(&question, &plate, 1);
+    put_it(&question);
+    give_standard_plates(&question);
     put_it(&question);
 }
 
@@ -228,7 +232,7 @@ static void put_plate_lists(const struct known *known)
     static struct question question;
     uint64_t figures[PAPER_PLACES];
     known_question(known, &question);
-    question.plate_count = 0;
+    give_plates(&question, NULL, 0);
     question_figures(&question, figures); /* cause 14 and the total */
     const uint32_t total = (uint32_t)figures[PLACE_FIGURE];
     for (size_t i = 0; i < COUNT(lists); i++) {
@@ -238,6 +242,38 @@ static void put_plate_lists(const struct known *known)
             question.plates[j] = plate == NOTHING ? 0 : plate == LARGEST ? UINT32_MAX : total + (uint32_t)plate;
         }
         put_question(&question);
+    }
+}
+
+/* Ends from the usual stock: the total is each of its plates, a hundredth less and a hundredth more. */
+static void put_stock(void (*put_it)(const struct question *))
+{
+    static struct question question;
+    static const uint32_t end[END_NUMBERS] = {
+        [END_FORM] = FORM_A, [END_MATERIAL] = 1, [END_SHELL] = 0, [END_TEMPERATURE] = 150, [END_DIAMETER] = 10000};
+    question.part = PART_END;
+    memcpy(question.numbers, end, sizeof end);
+    for (size_t i = 0; i < PAPER_STANDARD_PLATES; i++)
+        for (int step = -1; step <= 1; step++) {
+            const uint32_t plate = paper_standard_plates[i];
+            question.numbers[END_PRESSURE] = plate * plate / 100 * 4320 / 1000000 - 1; /* so that it needs somewhat less */
+            meet_standard_plate(step, &question);
+            give_standard_plates(&question);
+            put_it(&question);
+        }
+}
+
+/* Any parts from it. */
+static void put_drawn_stock(struct rng *rng, int count, void (*put_it)(const struct question *))
+{
+    static struct question question;
+    const struct wish nothing = wish_nothing();
+    for (int i = 0; i < count; i++) {
+        draw_numbers(rng, i % 2 == 0 ? PART_END : PART_BLIND, &nothing, &question);
+        if (i % 5 == 4)
+            draw_wild_numbers(rng, UINT32_MAX, &question);
+        draw_standard_plates(rng, &question);
+        put_it(&question);
     }
 }
 
@@ -284,6 +320,10 @@ static void put_end_changes(void)
     static const struct change changes[] = {
         {"2500/", "2500"}, {"2500/", "2500//"}, {"2500/", "2500/^"}, {"2500/", "2500/~"}, {"2500/", "2500\\/"},
         {"2500/", "2500/plates=2500/"}, {"2500", ""}, {"2500", "0"}, {"2500", "02500"}, {"2500", "999999"},
+        {"2500", "none"}, {"2500", "None"}, {"2500", "nonE"}, {"2500", "NONE"}, {"2500", "non"}, {"2500", "nones"},
+        {"2500", "none,"}, {"2500", ",none"}, {"2500", "none,300"}, {"2500", "2500,none"}, {"2500", "none2500"},
+        {"2500", " none"}, {"2500", "none "}, {"2500", "none\\"}, {"2500", "none^"}, {"2500", " "}, {"2500", "\\"},
+        {"2500/", "none"}, {"2500/", "none//"}, {"2500/", ""}, {"2500/", "//"}, {"2500/", "/plates=/"},
         {"2500", "1000000"}, {"2500", ",2500"}, {"2500", "2500,"}, {"2500", "2500,,2600"}, {"2500", "2600, 2500"},
         {"2500", "1,1,1,1,1,1,1,1,1,1,1,1,1,1,1,1,1,1,1,1,1,1,1,1,1,1,1,1,1,1,1,2500"},
         {"2500", "1,1,1,1,1,1,1,1,1,1,1,1,1,1,1,1,1,1,1,1,1,1,1,1,1,1,1,1,1,1,1,1,2500"},
@@ -312,7 +352,8 @@ static void put_rib_changes(void)
         {"ribw=100", "ribw=0"}, {"rib=4900", "rib=1"}, {"ribw=100", "ribw=1"}, {"rib=4900", "rib=40000"},
         {"rib=4900", "rib=40001"}, {"ribw=100", "ribw=126"}, {"ribw=100", "ribw=127"}, {"ribw=100", "ribw=500"},
         {"ribw=100", "ribw=501"}, {"width=100/rib=4900", "width=99/rib=0"}, {"rib=4900", "rib=999999"},
-        {"ribw=100", "ribw=1000000"}};
+        {"ribw=100", "ribw=1000000"}, {"2500,3200,4000", ""}, {"2500,3200,4000", "none"},
+        {"2500,3200,4000", "None"}, {"2500,3200,4000", "none,4000"}};
     put_changes(
         "part=blind/material=1/temp=150/pressure=1000/allow=100/od=5000/width=100/rib=4900/ribw=100/m=200/y=110/"
         "circle=5600/bolt=20/root=2250/count=16/sa=100/sb=100/plates=2500,3200,4000/",
@@ -354,10 +395,14 @@ static void put_sheets(struct rng *rng)
     put_spaces("");
     put_spaces("part=end\nform=c\nmaterial=1\nshell=1\ntemp=150\npressure=1080\ndia=5000\nallow=0\nplates=2500\n");
     put_spaces("part=end\nform=c\nmaterial=1\nshell=1\ntemp=150\npressure=1080\ndia=5000\nallow=0\nplates=2499\n");
+    put_spaces("part=end\nform=c\nmaterial=1\nshell=1\ntemp=150\npressure=1080\ndia=5000\nallow=0\nplates=\n");
+    put_spaces("part=end\nform=c\nmaterial=1\nshell=1\ntemp=150\npressure=1080\ndia=5000\nallow=0\nplates=none\n");
     put_causes(put_sheet);
     put_limits(rng, -1, 1, 2, put_sheet);
     put_end_changes();
     put_rib_changes();
+    put_stock(put_sheet);
+    put_drawn_stock(rng, 10, put_sheet);
     put_damages(rng, 2);
     put_drawn(rng, 14, 0, 4, put_sheet);
     put_drawn(rng, 4, 0, PAPER_SHEET_PLATES, put_sheet);
@@ -377,6 +422,8 @@ void make_vectors(void)
     put_causes(put_question);
     put_plate_lists(&known_cases[0]);
     put_plate_lists(&known_cases[known_count - 1]);
+    put_stock(put_question);
+    put_drawn_stock(&rng, 30, put_question);
     put_drawn(&rng, 60, 0, 4, put_question);
     put_drawn(&rng, 6, 0, 49, put_question);
     put_drawn(&rng, 44, 1, 3, put_question);

@@ -119,10 +119,24 @@ uint64_t scantling_blind_flange(
     uint32_t place);
 
 /*
+ * The same figures without a list: the plate is chosen from the usual stock, of 3, 4, 5, 6, 8, 10, 12, 15, 20, 25, 30, 40
+ * and 50 mm. Each answers what the call above answers with a list of these. An empty list is not the usual stock: with it
+ * the calls above are refused by SCANTLING_NO_PLATE, and its figure is the total, wherever no other cause applies.
+ */
+uint64_t scantling_endplate_standard(
+    uint32_t form, uint32_t material, uint32_t shell, uint32_t temperature, uint32_t pressure, uint32_t diameter,
+    uint32_t allowance, uint32_t place);
+uint64_t scantling_blind_flange_standard(
+    uint32_t material, uint32_t temperature, uint32_t pressure, uint32_t allowance, uint32_t od, uint32_t width,
+    uint32_t rib, uint32_t rib_width, uint32_t m, uint32_t y, uint32_t circle, uint32_t bolt, uint32_t root,
+    uint32_t count, uint32_t sa, uint32_t sb, uint32_t place);
+
+/*
  * Answers the sheet in text: the length in bytes of its report or refusal. If that is not above out_length the report
  * stands in the first bytes of out, and the bytes past it are as they were. Otherwise the space is short (cause 15) and
  * all of out is as it was. A text of any bytes is answered. text and out must not overlap; either may be null if its
- * length is 0.
+ * length is 0. A sheet that ends in "plates=\n" has the usual stock; one that ends in "plates=none\n" has no plate, and
+ * its refusal by cause 14 says the total.
  */
 size_t scantling_sheet(const uint8_t *text, size_t text_length, uint8_t *out, size_t out_length);
 

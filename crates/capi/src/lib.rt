@@ -4,7 +4,7 @@ use rules::EndplateSheet;
 ghost use Prim.Native.Nat.{_≤_};
 ghost use mathlib.Core.Path.{_≡_};
 ghost use Rattle.root.specs.Root.{leastRoot};
-ghost use Rattle.plates.specs.Plates.{platesIn};
+ghost use Rattle.plates.specs.Plates.{platesIn, standardPlates};
 ghost use Rattle.rules.specs.Answer.{endplateAnswer, blindFlangeAnswer};
 ghost use Rattle.report.specs.Report.{longest};
 ghost use Rattle.sheet.specs.Outcome.{lengthFor, spaceOf};
@@ -98,6 +98,88 @@ pub extern "C" fn scantling_blind_flange(
         sb,
     };
     figure_at(rules::blind_flange_from_bytes(sheet, plates), place)
+}
+
+// One figure of an endplate, by its place, with the plate from the usual stock.
+#[no_mangle]
+pub extern "C" fn scantling_endplate_standard(
+    form: u32,
+    material: u32,
+    shell: u32,
+    temperature: u32,
+    pressure: u32,
+    diameter: u32,
+    allowance: u32,
+    place: u32,
+) -> u64
+    ensures { λ r.
+        let s = endplateCall form material shell temperature pressure diameter allowance in
+        ⌜ r ≡ figureAt (endplateAnswer s standardPlates) place ⌝ }
+    ensures exact { λ r.
+        let s = endplateCall form material shell temperature pressure diameter allowance in
+        ⌜ EndplateFigureExact s (endplateAnswer s standardPlates) place r ⌝ }
+{
+    let sheet = EndplateSheet {
+        form,
+        material,
+        shell,
+        temperature,
+        pressure,
+        diameter,
+        allowance,
+    };
+    figure_at(rules::endplate_standard(sheet), place)
+}
+
+// One figure of a blind flange, in the same way.
+#[no_mangle]
+pub extern "C" fn scantling_blind_flange_standard(
+    material: u32,
+    temperature: u32,
+    pressure: u32,
+    allowance: u32,
+    od: u32,
+    width: u32,
+    rib: u32,
+    rib_width: u32,
+    m: u32,
+    y: u32,
+    circle: u32,
+    bolt: u32,
+    root: u32,
+    count: u32,
+    sa: u32,
+    sb: u32,
+    place: u32,
+) -> u64
+    ensures { λ r.
+        let s =
+        blindFlangeCall material temperature pressure allowance od width rib «rib_width» m y circle bolt root count sa sb in
+        ⌜ r ≡ figureAt (blindFlangeAnswer s standardPlates) place ⌝ }
+    ensures exact { λ r.
+        let s =
+        blindFlangeCall material temperature pressure allowance od width rib «rib_width» m y circle bolt root count sa sb in
+        ⌜ BlindFlangeFigureExact s (blindFlangeAnswer s standardPlates) place r ⌝ }
+{
+    let sheet = BlindFlangeSheet {
+        material,
+        temperature,
+        pressure,
+        allowance,
+        od,
+        width,
+        rib,
+        rib_width,
+        m,
+        y,
+        circle,
+        bolt,
+        root,
+        count,
+        sa,
+        sb,
+    };
+    figure_at(rules::blind_flange_standard(sheet), place)
 }
 
 // Answers the sheet in `text`: the length of the report that results. It stands at the front of `out` if that is long

@@ -10,3 +10,5 @@ mod OldBlindSheets
 mod RenewedSheets
 mod WholeNewtons
 mod LoadsInTenths
+mod OtherPlates
+mod UsualStock

@@ -10,12 +10,17 @@ use lib.Dec.{eqb}
 use lib.ListN.{length, take, drop, getD, length-append}
 use lib.Seq.{take-append-seam, drop-append-add}
 use Rattle.bytes.specs.Bytes.{indexOf, indexAfter}
-use Rattle.text.specs.Ascii.{equals, lineFeed}
+use Rattle.text.specs.Ascii.{ascii, equals, lineFeed}
 use Rattle.text.specs.Line.{begins, contains, isLine, valueOf, before, after}
 use Rattle.text.specs.Laws.Joined.{Lacks, lacks-cons, index-append}
 use Rattle.text.specs.declared.number.Number.{Number}
 use Rattle.text.specs.declared.number.Number.the-variants.{Value, Malformed}
-use Rattle.lines.specs.Fields.{lineOf}
+use Rattle.lines.specs.Fields.{Field, lineOf}
+use Rattle.sheet.specs.Sheet.{isPart}
+
+-- a key without LF
+abbrev pub withoutLf : Field → Bool
+withoutLf field = eqb (indexOf lineFeed (ascii (field .0))) (length (ascii (field .0)))
 
 -- a line that shows a number is a line of its key
 abbrev IsValue : Number → Type 0
@@ -115,12 +120,12 @@ module _ (u : List ℕ) (l : Lacks lineFeed u) where
   unfolding after
   after-line rest = rw (ends rest) (drop-append-add u (lineFeed ∷ rest) 1)
 
-  ended : (rest : List ℕ) → contains lineFeed (u ++ lineFeed ∷ rest) ≡ true
+  pub ended : (rest : List ℕ) → contains lineFeed (u ++ lineFeed ∷ rest) ≡ true
   ended rest =
       let t = u ++ lineFeed ∷ rest in
       lt-ltb (indexOf lineFeed t) (length t) (omega (arith, ends rest, length-append u (lineFeed ∷ rest)))
 
-  value-line : (key rest : List ℕ) → valueOf key (u ++ lineFeed ∷ rest) ≡ drop (length key + 1) u
+  pub value-line : (key rest : List ℕ) → valueOf key (u ++ lineFeed ∷ rest) ≡ drop (length key + 1) u
   unfolding valueOf
   value-line key rest = rw (ends rest) (middle (length key + 1) u (lineFeed ∷ rest))
 
@@ -136,3 +141,11 @@ module _ (u : List ℕ) (l : Lacks lineFeed u) where
         lineOf key reader (u ++ lineFeed ∷ rest) ≡ lineOf key reader (u ++ lineFeed ∷ other)
     unfolding lineOf
     line-same reader = rw (is-same, value-same)
+
+-- whether a text begins with part= and this word
+pub part-same :
+    (word u rest other : List ℕ) → Lacks lineFeed u → isPart word (u ++ lineFeed ∷ rest) ≡ isPart word (u ++ lineFeed ∷ other)
+unfolding indexOf indexAfter
+part-same word u rest other l =
+    let key = ascii "part" in
+    rw (is-same u l key rest other refl, value-same u l key rest other refl)

@@ -28,7 +28,8 @@ use Rattle.sheet.specs.Sheet.{Sheet, blindFlangeSheet, read, isPart, partOf, sh
 use Rattle.sheet.specs.Outcome.{reportFor}
 use Rattle.cases.proofs.Starred.{textOf}
 use Rattle.cases.proofs.PassPartitionRibs.{ribbed, no-rib}
-use Rattle.cases.proofs.LineByItself.{is-line, lf-found, lacks-before, apart, after-line, is-same, value-same, line-same}
+use Rattle.cases.proofs.LineByItself.{withoutLf, is-line, lf-found, lacks-before, apart, after-line}
+use Rattle.cases.proofs.LineByItself.{line-same, part-same}
 use Rattle.cases.proofs.OldBlindSheets.{fieldsBefore, fieldsAfter, formerRead, formerLines, formerSheetOf}
 use Rattle.cases.proofs.OldBlindSheets.{formerAnswered, Given, IsBlind, was-blind, read-as-blind}
 
@@ -43,10 +44,6 @@ putIn (suc n) bytes t = before lineFeed t ++ lineFeed ∷ putIn n bytes (after l
 abbrev PutIn : ℕ → List ℕ → Lines → Lines → Type 0
 PutIn n numbers (fault k) lines = Unit
 PutIn n numbers (given v plates) lines = lines ≡ given (take n v ++ (numbers ++ drop n v)) plates
-
--- a key without LF
-abbrev withoutLf : Field → Bool
-withoutLf field = eqb (indexOf lineFeed (ascii (field .0))) (length (ascii (field .0)))
 
 ahead-put :
     (numbers : List ℕ) (line x n : ℕ) (rest rest' : Lines) {number : Number} →
@@ -142,13 +139,6 @@ two-zeros line t =
 -- the text of an old sheet with the two lines: after part and the six up to the width
 abbrev renewed : List ℕ → List ℕ
 renewed text = putIn 7 noRib text
-
-part-same :
-    (word u rest other : List ℕ) → Lacks lineFeed u → isPart word (u ++ lineFeed ∷ rest) ≡ isPart word (u ++ lineFeed ∷ other)
-unfolding indexOf indexAfter
-part-same word u rest other l =
-    let key = ascii "part" in
-    rw (is-same u l key rest other refl, value-same u l key rest other refl)
 
 part-kept : (word text : List ℕ) → isLine (ascii "part") text ≡ true → isPart word (renewed text) ≡ isPart word text
 part-kept word text e =

@@ -1,5 +1,5 @@
-// Runs the calculation of a blind flange: the numbers of the sheet in the order of its lines, and the plates. Written
-// are the answer of the call, and then the figures by place, as C gets them.
+// Runs the calculation of a blind flange: the numbers of the sheet in the order of its lines, and the plates, or none for
+// the calls without a list. Written are the answer of the call, and then the figures by place, as C gets them.
 use crate::answers::answered;
 use crate::line::MOST_NUMBERS;
 use crate::lists::bytes_of;
@@ -8,6 +8,7 @@ use crate::print::low;
 use crate::print::number;
 use crate::print::text;
 use capi::scantling_blind_flange;
+use capi::scantling_blind_flange_standard;
 use lines::blind_flange;
 use rules::BlindFlangeSheet;
 ghost use Prim.Native.Nat.{_≤_};
@@ -79,4 +80,41 @@ pub(crate) fn blind_flange(n: &[u64]) {
     let size = bytes_of(&plates[..count], &mut bytes);
     text(b" :");
     by_place(sheet, &bytes[..size]);
+}
+
+fn standard_by_place(s: BlindFlangeSheet) {
+    let mut place: u32 = 0;
+    while place < PLACES {
+        number(scantling_blind_flange_standard(
+            s.material,
+            s.temperature,
+            s.pressure,
+            s.allowance,
+            s.od,
+            s.width,
+            s.rib,
+            s.rib_width,
+            s.m,
+            s.y,
+            s.circle,
+            s.bolt,
+            s.root,
+            s.count,
+            s.sa,
+            s.sb,
+            place,
+        ));
+        place += 1;
+    }
+}
+
+// From the usual stock.
+pub(crate) fn blind_flange_standard(n: &[u64]) {
+    if n.len() != blind_flange::FIELDS {
+        return;
+    }
+    let sheet = sheet_of(n);
+    answered(rules::blind_flange_standard(sheet));
+    text(b" :");
+    standard_by_place(sheet);
 }

@@ -1,5 +1,5 @@
-// Runs the calculation of an endplate: the numbers of the sheet in the order of its lines, and the plates. Written
-// are the answer of the call, and then the figures by place, as C gets them.
+// Runs the calculation of an endplate: the numbers of the sheet in the order of its lines, and the plates, or none for
+// the calls without a list. Written are the answer of the call, and then the figures by place, as C gets them.
 use crate::answers::answered;
 use crate::line::MOST_NUMBERS;
 use crate::lists::bytes_of;
@@ -8,6 +8,7 @@ use crate::print::low;
 use crate::print::number;
 use crate::print::text;
 use capi::scantling_endplate;
+use capi::scantling_endplate_standard;
 use lines::endplate;
 use rules::EndplateSheet;
 ghost use Prim.Native.Nat.{_≤_};
@@ -61,4 +62,32 @@ pub(crate) fn endplate(n: &[u64]) {
     let size = bytes_of(&plates[..count], &mut bytes);
     text(b" :");
     by_place(sheet, &bytes[..size]);
+}
+
+fn standard_by_place(s: EndplateSheet) {
+    let mut place: u32 = 0;
+    while place < PLACES {
+        number(scantling_endplate_standard(
+            s.form,
+            s.material,
+            s.shell,
+            s.temperature,
+            s.pressure,
+            s.diameter,
+            s.allowance,
+            place,
+        ));
+        place += 1;
+    }
+}
+
+// From the usual stock.
+pub(crate) fn endplate_standard(n: &[u64]) {
+    if n.len() != endplate::FIELDS {
+        return;
+    }
+    let sheet = sheet_of(n);
+    answered(rules::endplate_standard(sheet));
+    text(b" :");
+    standard_by_place(sheet);
 }

@@ -5,7 +5,9 @@ use crate::arithmetic::quotient;
 use crate::arithmetic::root;
 use crate::arithmetic::root_over;
 use crate::blind_flange::blind_flange;
+use crate::blind_flange::blind_flange_standard;
 use crate::endplate::endplate;
+use crate::endplate::endplate_standard;
 use crate::line::MOST_NUMBERS;
 use crate::line::read_numbers;
 use crate::line::text_of;
@@ -29,6 +31,10 @@ const ROOT: u64 = 6;
 
 const ROOT_OVER: u64 = 7;
 
+const ENDPLATE_STANDARD: u64 = 8;
+
+const BLIND_FLANGE_STANDARD: u64 = 9;
+
 fn answer(kind: u64, numbers: &[u64], line: &[u8]) {
     match kind {
         ENDPLATE => endplate(numbers),
@@ -38,6 +44,8 @@ fn answer(kind: u64, numbers: &[u64], line: &[u8]) {
         QUOTIENT => quotient(numbers),
         ROOT => root(numbers),
         ROOT_OVER => root_over(numbers),
+        ENDPLATE_STANDARD => endplate_standard(numbers),
+        BLIND_FLANGE_STANDARD => blind_flange_standard(numbers),
         _ => text(b" no such kind"),
     }
 }

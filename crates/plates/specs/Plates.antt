@@ -1,7 +1,7 @@
 -- What a plate is, and the choice of one (document 01). Plates and the total in hundredths of a mm.
 use Prim.Native.Nat.{ℕ, _≤_}
 use mathlib.Core.Bool.{Bool, true, false, _&&_, _||_, cond}
-use mathlib.Core.List.{List, foldl, map, List·Memᴰ}
+use mathlib.Core.List.{List, [], _∷_, foldl, map, List·Memᴰ}
 use lib.Dec.{leb, ltb}
 use Rattle.plates.specs.Bytes.{numbersIn}
 use Rattle.plates.specs.declared.Choice.{Choice}
@@ -41,6 +41,11 @@ isChosen NoPlate = false
 -- C's list: each number in its bytes is a plate
 abbrev pub platesIn : List ℕ → List ℕ
 platesIn bytes = numbersIn bytes
+
+-- the usual stock (document 02, R-8)
+unfoldable pub standardPlates : List ℕ
+standardPlates =
+    300 ∷ 400 ∷ 500 ∷ 600 ∷ 800 ∷ 1000 ∷ 1200 ∷ 1500 ∷ 2000 ∷ 2500 ∷ 3000 ∷ 4000 ∷ 5000 ∷ []
 
 -- ---- what the plate rule asks of a choice
 

@@ -1,6 +1,6 @@
 // What a plate is, and the choice of one from a list. A plate is its thickness, in hundredths of a mm.
 ghost use mathlib.Core.Path.{_≡_};
-ghost use Rattle.plates.specs.Plates.{better, smallestServing, platesIn, Smallest};
+ghost use Rattle.plates.specs.Plates.{better, smallestServing, platesIn, standardPlates, Smallest};
 
 mod bytes;
 
@@ -57,4 +57,28 @@ pub fn smallest_serving_from_bytes(total: u64, bytes: &[u8]) -> Choice
         at += 4;
     }
     choice
+}
+
+// The usual stock.
+const STANDARD_PLATES: [u32; 13] = [
+    300,
+    400,
+    500,
+    600,
+    800,
+    1000,
+    1200,
+    1500,
+    2000,
+    2500,
+    3000,
+    4000,
+    5000,
+];
+
+// The plates of the usual stock, for a caller who has no list.
+pub fn standard_plates() -> [u32; 13]
+    ensures { λ r. ⌜ r ≡ standardPlates ⌝ }
+{
+    STANDARD_PLATES
 }

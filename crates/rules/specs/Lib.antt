@@ -1,4 +1,4 @@
--- What the contracts of rules cite, and at each "least with" the law that it is that.
+-- What the contracts of rules cite, at each "least with" the law that it is that, and laws for callers.
 pub mod Bounds
 pub mod Endplate
 pub mod Gasket
@@ -10,3 +10,4 @@ pub mod Figures
 pub mod Answer
 pub mod Numbers
 pub mod Exact
+pub mod Laws

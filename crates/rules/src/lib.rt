@@ -5,7 +5,7 @@ ghost use Rattle.rules.specs.Answer.{causeOf, figureOf, reportOf};
 ghost use Rattle.rules.specs.Exact.{EndplateExact, BlindFlangeExact};
 ghost use Rattle.rules.specs.Numbers.{endplateCause, endplateFigure, endplateReport};
 ghost use Rattle.rules.specs.Numbers.{blindFlangeCause, blindFlangeFigure, blindFlangeReport};
-ghost use Rattle.plates.specs.Plates.{platesIn};
+ghost use Rattle.plates.specs.Plates.{platesIn, standardPlates};
 pub use limits::BlindFlangeSheet;
 pub use limits::EndplateSheet;
 
@@ -17,6 +17,7 @@ mod loads;
 mod sizing;
 mod thickness;
 
+use plates::standard_plates;
 use sizing::blind_flange_sizing;
 use sizing::endplate_sizing;
 use sizing::from_bytes;
@@ -118,4 +119,30 @@ pub fn blind_flange_from_bytes(s: BlindFlangeSheet, plates: &[u8]) -> Answer
     ensures exact { λ r. ⌜ BlindFlangeExact s r ⌝ }
 {
     from_bytes(blind_flange_sizing(s), plates)
+}
+
+// The size of an endplate from the usual stock, or the first cause to refuse it.
+pub fn endplate_standard(s: EndplateSheet) -> Answer
+    ensures { λ r. ⌜ r ≡ endplateAnswer s standardPlates ⌝ }
+    ensures numbers { λ r.
+        let ps = standardPlates in
+        ⌜ (causeOf r ≡ endplateCause s ps) × (figureOf r ≡ endplateFigure s ps) × (reportOf r ≡ endplateReport s ps) ⌝ }
+    ensures exact { λ r. ⌜ EndplateExact s r ⌝ }
+{
+    let stock = standard_plates();
+    endplate(s, &stock)
+}
+
+// The same of a blind flange.
+pub fn blind_flange_standard(s: BlindFlangeSheet) -> Answer
+    ensures { λ r. ⌜ r ≡ blindFlangeAnswer s standardPlates ⌝ }
+    ensures numbers { λ r.
+        let ps = standardPlates in
+        ⌜ (causeOf r ≡ blindFlangeCause s ps)
+        × (figureOf r ≡ blindFlangeFigure s ps)
+        × (reportOf r ≡ blindFlangeReport s ps) ⌝ }
+    ensures exact { λ r. ⌜ BlindFlangeExact s r ⌝ }
+{
+    let stock = standard_plates();
+    blind_flange(s, &stock)
 }

@@ -6,13 +6,12 @@ use mathlib.Core.Option.{Option, none, some}
 use mathlib.Core.Path.{_≡_, refl, sym, ap}
 use native.Mathlib.Numerals.{add-one}
 use native.Mathlib.Omega.{arith}
-use borrow.Author.Tests.{eq-eqb, ne-eqb}
 use lib.ListN.{length, take, drop, set, replicate}
 use lib.Seq.{take-suc-set, length-take-le}
 use Rattle.text.specs.Ascii.{comma}
 use Rattle.text.specs.Line.{contains, before, after}
 use Rattle.text.specs.Number.{numberOf}
-use Rattle.text.specs.Plates.{mostPlates, numberBefore, numbersListed, platesOf, platesHeld}
+use Rattle.text.specs.Plates.{mostPlates, numberBefore, numbersListed, platesHeld}
 use Rattle.text.specs.Laws.Padded.{zeros-fill}
 use Rattle.text.specs.declared.number.Number.the-variants.{Value, Malformed}
 
@@ -26,19 +25,11 @@ prependList-number : (xs : List ℕ) (x : ℕ) (o : Option (List ℕ))
 prependList-number xs x none = refl
 prependList-number xs x (some ys) = ap some (sym (append-assoc xs (x ∷ []) ys))
 
-prependList-nothing : (o : Option (List ℕ)) → o ≡ prependList [] o
+pub prependList-nothing : (o : Option (List ℕ)) → o ≡ prependList [] o
 prependList-nothing none = refl
 prependList-nothing (some ys) = refl
 
 -- ---- the text
-
-pub plates-none : (v : List ℕ) → length v ≡ 0 → platesOf v ≡ some []
-unfolding platesOf
-plates-none v e = rw (eq-eqb (length v) 0 e)
-
-pub plates-some : (v : List ℕ) → (length v ≡ 0 → ⊥) → platesOf v ≡ prependList [] (numbersListed mostPlates v)
-unfolding platesOf
-plates-some v n = rw (ne-eqb (length v) 0 n) (prependList-nothing (numbersListed mostPlates v))
 
 pub numbers-over : (t : List ℕ) (k : ℕ) → k ≡ 0 → numbersListed k t ≡ none
 unfolding numbersListed
@@ -85,6 +76,6 @@ platesHeld-some l c h e z =
     rw (← zeros-fill mostPlates l c (omega arith) z, length-take-le c l (omega arith))
 
 -- no list where the rest of the text is none
-pub platesHeld-none : (v xs : List ℕ) {o : Option (List ℕ)} → platesOf v ≡ prependList xs o → o ≡ none
-    → platesHeld none ≡ platesHeld (platesOf v)
-platesHeld-none v xs e n = rw (e, n)
+pub platesHeld-none : (xs : List ℕ) {all o : Option (List ℕ)} → all ≡ prependList xs o → o ≡ none
+    → platesHeld none ≡ platesHeld all
+platesHeld-none xs e n = rw (e, n)

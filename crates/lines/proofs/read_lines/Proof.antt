@@ -9,7 +9,7 @@ use lib.ListN.{length, take, drop, replicate}
 use Rattle.text.specs.Ascii.{lineFeed}
 use Rattle.text.specs.Line.{after}
 use Rattle.text.specs.Plates.{platesHeld}
-use Rattle.text.specs.declared.plates.Plates.{Plates}
+use Rattle.text.specs.declared.plate_list.Plates.{Plates}
 use Rattle.text.specs.Laws.Padded.{zeros-after}
 use Rattle.lines.specs.Fields.{fieldsOf, mostFields}
 use Rattle.lines.specs.Lines.{fault, platesLine, lastLine, linesOf, linesHeld}

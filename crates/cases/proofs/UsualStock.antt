@@ -1,0 +1,302 @@
+-- An empty plate list (R-8): plates= stands for the usual stock and plates=none for no plate, and every other text is read as
+-- it was. Assumes nothing.
+use Prim.Native.Nat.{ℕ, _+_}
+use Prim.Native.String.{String}
+use mathlib.Core.Bool.{Bool, true, false, cond, _&&_, false≢true, and-eq-true-iff}
+use mathlib.Core.List.{List, [], _∷_, _++_, map, append-nil}
+use mathlib.Core.Option.{Option, none, some}
+use mathlib.Core.Path.{_≡_, refl, sym, ap, _∙_}
+use native.Mathlib.Omega.{arith}
+use borrow.Author.Tests.{eqb-true}
+use lib.Dec.{eqb}
+use lib.ListN.{length, length-append}
+use Rattle.bytes.specs.Bytes.{indexOf, indexAfter}
+use Rattle.tables.specs.DesignStress.{column, designStress}
+use Rattle.root.specs.Root.{ceilDiv, wholeRootBy, leastRoot, leastRootOver}
+use Rattle.plates.specs.Plates.{smallestServing, standardPlates}
+use Rattle.limits.specs.Causes.{firstOf}
+use Rattle.limits.specs.Limits.{endplateCauses}
+use Rattle.limits.specs.Stress.{endplateStress}
+use Rattle.rules.specs.Endplate.{endplateThickness}
+use Rattle.rules.specs.Figures.{endplateFigures}
+use Rattle.rules.specs.Answer.{endplateSizing, endplateAnswer}
+use Rattle.rules.specs.Laws.{withoutPlate, endplate-none, flange-none}
+use Rattle.text.specs.Ascii.{ascii, comma, lineFeed}
+use Rattle.text.specs.Line.{begins, same, isLine, valueOf, before, after}
+use Rattle.text.specs.Number.{numberOf}
+use Rattle.text.specs.Plates.{mostPlates, numbersListed, platesOf}
+use Rattle.text.specs.Laws.Joined.{Lacks}
+use Rattle.text.specs.declared.number.Number.{Number}
+use Rattle.text.specs.declared.number.Number.the-variants.{Value, Malformed}
+use Rattle.report.specs.Decimal.{decimal, numberLine}
+use Rattle.report.specs.Report.{reportText}
+use Rattle.lines.specs.Fields.{Field, lineOf, fieldOf, fieldsOf}
+use Rattle.lines.specs.Lines.{Lines, fault, given, ahead, platesLine, lastLine, linesOf}
+use Rattle.sheet.specs.Sheet.{Sheet, malformed, endplate, blindFlange, read, isPart, partOf, sheetOf, answered, answerOf}
+use Rattle.sheet.specs.Outcome.{reportFor}
+use Rattle.cases.proofs.Starred.{textOf}
+use Rattle.cases.proofs.OtherPlates.{Reading, byPart, platesBy, linesBy, partBy, sheetBy, present-part, present, past, agree}
+use Rattle.cases.proofs.OtherPlates.{sheetText, AreLines, withPlates, other-plates}
+
+-- nothing was an empty list, and none was no list
+abbrev pub formerPlates : Reading
+formerPlates v = cond (eqb (length v) 0) (some []) (numbersListed mostPlates v)
+
+abbrev pub formerSheetOf : List ℕ → Sheet
+formerSheetOf text = sheetBy formerPlates text
+
+-- ---- every other value is read as it was
+
+-- the value of a text's plates line, after the lines of a blind flange or of an endplate
+abbrev platesValue : Bool → List ℕ → List ℕ
+platesValue blind text = valueOf (ascii "plates") (past (fieldsOf blind) (after lineFeed text))
+
+pub read-as-before :
+    (blind : Bool) (text : List ℕ) →
+    eqb (length (platesValue blind text)) 0 ≡ false →
+    same (ascii "none") (platesValue blind text) ≡ false →
+    partOf blind text ≡ partBy formerPlates blind text
+unfolding platesOf
+read-as-before blind text some-value not-none =
+    sym (present-part blind text) ∙ agree platesOf formerPlates blind text (rw (some-value, not-none))
+
+-- ---- a sheet with a list of one plate or more keeps its report
+
+abbrev OneOrMore : Option (List ℕ) → Type 0
+OneOrMore none = ⊥
+OneOrMore (some []) = ⊥
+OneOrMore (some (plate ∷ plates)) = Unit
+
+abbrev pub Lists : Sheet → Type 0
+Lists (malformed line) = ⊥
+Lists (endplate s plates) = OneOrMore (some plates)
+Lists (blindFlange s plates) = OneOrMore (some plates)
+
+abbrev LinesList : Lines → Type 0
+LinesList (fault k) = ⊥
+LinesList (given v plates) = OneOrMore (some plates)
+
+-- then its plates line does
+line-lists :
+    (line : ℕ) (fs : List Field) (t : List ℕ) →
+    LinesList (linesBy formerPlates line fs t) →
+    OneOrMore (platesBy formerPlates (past fs t))
+line-lists line [] t g = by-plates (platesBy formerPlates t) (eqb (length (after lineFeed t)) 0) refl g
+  where
+    by-plates :
+        (o : Option (List ℕ)) (last : Bool) →
+        eqb (length (after lineFeed t)) 0 ≡ last →
+        LinesList (lastLine line o (after lineFeed t)) →
+        OneOrMore o
+    by-plates none last e g = absurd g
+    by-plates (some plates) true e g = rw e at g
+    by-plates (some plates) false e g = absurd (rw e at g)
+line-lists line (f ∷ fs) t g =
+    line-lists (line + 1) fs (after lineFeed t) (later (fieldOf f t) (linesBy formerPlates (line + 1) fs (after lineFeed t)) g)
+  where
+    later : (n : Number) (rest : Lines) → LinesList (ahead line n rest) → LinesList rest
+    later (Value x) (given v plates) g = g
+    later (Value x) (fault k) g = absurd g
+    later Malformed rest g = absurd g
+
+-- the word by itself
+begun : (s t : List ℕ) → begins s t ≡ true → (rest : List ℕ) × (t ≡ s ++ rest)
+begun [] t e = (t, refl)
+begun (b ∷ s) [] e = absurd (false≢true e)
+begun (b ∷ s) (x ∷ t) e =
+    let h = and-eq-true-iff (eqb x b) (begins s t) .0 e in
+    let r = begun s t (h .1) in
+    (r .0, ap (λ (y : ℕ). y ∷ t) (eqb-true x b (h .0)) ∙ ap (λ (y : List ℕ). b ∷ y) (r .1))
+
+word : (s t : List ℕ) → same s t ≡ true → t ≡ s
+word s t e =
+    let h = and-eq-true-iff (eqb (length t) (length s)) (begins s t) .0 e in
+    let r = begun s t (h .1) in
+    alone (r .0) (r .1) (omega (arith, eqb-true (length t) (length s) (h .0), ap length (r .1), length-append s (r .0)))
+  where
+    alone : (rest : List ℕ) → t ≡ s ++ rest → length rest ≡ 0 → t ≡ s
+    alone [] q z = q ∙ append-nil s
+    alone (x ∷ rest) q z = absurd (omega (arith, z))
+
+-- none lists no numbers
+none-unlisted : (v : List ℕ) → same (ascii "none") v ≡ true → numbersListed mostPlates v ≡ none
+unfolding numbersListed numberOf before indexOf indexAfter
+none-unlisted v e = rw (word (ascii "none") v e)
+
+-- and is read as it was
+value-kept : (v : List ℕ) → OneOrMore (formerPlates v) → platesOf v ≡ formerPlates v
+unfolding platesOf
+value-kept v g = by-value (eqb (length v) 0) (same (ascii "none") v) refl g
+  where
+    by-value :
+        (empty is-none : Bool) →
+        same (ascii "none") v ≡ is-none →
+        let listed = numbersListed mostPlates v in
+        OneOrMore (cond empty (some []) listed) →
+        cond empty (some standardPlates) (cond is-none (some []) listed) ≡ cond empty (some []) listed
+    by-value true is-none e g = absurd g
+    by-value false true e g = absurd (rw (none-unlisted v e) at g)
+    by-value false false e g = refl
+
+line-kept : (t : List ℕ) → OneOrMore (platesBy formerPlates t) → platesBy platesOf t ≡ platesBy formerPlates t
+line-kept t g = by-line (isLine (ascii "plates") t) g
+  where
+    by-line :
+        (b : Bool) →
+        let v = valueOf (ascii "plates") t in
+        OneOrMore (cond b (formerPlates v) none) →
+        cond b (platesOf v) none ≡ cond b (formerPlates v) none
+    by-line true g = value-kept (valueOf (ascii "plates") t) g
+    by-line false g = absurd g
+
+part-kept : (blind : Bool) (text : List ℕ) → Lists (partBy formerPlates blind text) → partOf blind text ≡ partBy formerPlates blind text
+part-kept blind text g =
+    let fs = fieldsOf blind in
+    let t = after lineFeed text in
+    let lists = lines-of blind (linesBy formerPlates 2 fs t) g in
+    sym (present-part blind text) ∙ agree platesOf formerPlates blind text (line-kept (past fs t) (line-lists 2 fs t lists))
+  where
+    lines-of : (blind : Bool) (l : Lines) → Lists (read blind l) → LinesList l
+    lines-of true (given v plates) g = g
+    lines-of false (given v plates) g = g
+    lines-of blind (fault k) g = absurd g
+
+pub kept : (text : List ℕ) → Lists (formerSheetOf text) → sheetOf text ≡ formerSheetOf text
+unfolding sheetOf
+kept text g = by-part (isPart (ascii "end") text) (isPart (ascii "blind") text) g
+  where
+    by-part :
+        (end blind : Bool) →
+        let former = byPart end blind (partBy formerPlates false text) (partBy formerPlates true text) in
+        Lists former →
+        byPart end blind (partOf false text) (partOf true text) ≡ former
+    by-part true blind g = part-kept false text g
+    by-part false true g = part-kept true text g
+    by-part false false g = refl
+
+pub report-kept : (text : List ℕ) → Lists (formerSheetOf text) → reportFor text ≡ reportText (answered (formerSheetOf text))
+unfolding answerOf
+report-kept text g = ap (λ (s : Sheet). reportText (answered s)) (kept text g)
+
+-- ---- plates= is the thirteen numbers written out
+
+abbrev pub writtenOut : List ℕ
+writtenOut = ascii "300,400,500,600,800,1000,1200,1500,2000,2500,3000,4000,5000"
+
+-- a sheet's lines up to the plates'
+module _ (us : List (List ℕ)) (lines : AreLines us) where
+  -- two plates lines that are read
+  other-line :
+      (value other plates others : List ℕ) →
+      Lacks lineFeed value →
+      Lacks lineFeed other →
+      platesOf value ≡ some plates →
+      platesOf other ≡ some others →
+      sheetOf (sheetText us value) ≡ withPlates plates (sheetOf (sheetText us other))
+  other-line value other plates others l l' e e' =
+      sym (present (sheetText us value))
+      ∙ other-plates platesOf value other plates others l l' e e' us lines
+      ∙ ap (withPlates plates) (present (sheetText us other))
+
+  written-out : platesOf writtenOut ≡ some standardPlates
+  unfolding platesOf standardPlates numbersListed numberOf before after indexOf indexAfter
+  written-out = refl
+
+  pub standard-written : sheetOf (sheetText us []) ≡ sheetOf (sheetText us writtenOut)
+  unfolding platesOf indexOf indexAfter
+  standard-written =
+      let p = standardPlates in
+      other-line [] writtenOut p p refl refl refl written-out
+      ∙ sym (other-line writtenOut writtenOut p p refl refl written-out written-out)
+
+  pub standard-report : reportFor (sheetText us []) ≡ reportFor (sheetText us writtenOut)
+  unfolding answerOf
+  standard-report = ap (λ (s : Sheet). reportText (answered s)) standard-written
+
+-- ---- plates=none
+
+sheet-none : (s : Sheet) → answered (withPlates [] s) ≡ withoutPlate (answered s)
+sheet-none (malformed line) = refl
+sheet-none (endplate s plates) = endplate-none s plates
+sheet-none (blindFlange s plates) = flange-none s plates
+
+-- a sheet that is not malformed
+abbrev pub IsRead : Sheet → Type 0
+IsRead (malformed line) = ⊥
+IsRead (endplate s plates) = Unit
+IsRead (blindFlange s plates) = Unit
+
+module _ (us : List (List ℕ)) (lines : AreLines us) where
+  pub none-total :
+      (value plates : List ℕ) →
+      Lacks lineFeed value →
+      platesOf value ≡ some plates →
+      answerOf (sheetText us (ascii "none")) ≡ withoutPlate (answerOf (sheetText us value))
+  unfolding answerOf platesOf indexOf indexAfter
+  none-total value plates l e =
+      ap answered (other-line us lines (ascii "none") value [] plates refl l refl e)
+      ∙ sheet-none (sheetOf (sheetText us value))
+
+  -- plates=none is read as plates= was, and so answered, wherever that was read
+  pub as-it-was : IsRead (formerSheetOf (sheetText us [])) → sheetOf (sheetText us (ascii "none")) ≡ formerSheetOf (sheetText us [])
+  unfolding platesOf numbersListed numberOf before after indexOf indexAfter
+  as-it-was r =
+      let one = ascii "1" in
+      let former = formerSheetOf (sheetText us []) in
+      let with-one = other-plates formerPlates one [] (1 ∷ []) [] refl refl refl refl us lines in
+      let same-one = kept (sheetText us one) (rw with-one (lists former r)) ∙ with-one in
+      other-line us lines (ascii "none") one [] (1 ∷ []) refl refl refl refl
+      ∙ ap (withPlates []) same-one
+      ∙ again former
+      ∙ sym (other-plates formerPlates [] [] [] [] refl refl refl refl us lines)
+    where
+      lists : (s : Sheet) → IsRead s → Lists (withPlates (1 ∷ []) s)
+      lists (malformed line) r = absurd r
+      lists (endplate s plates) r = tt
+      lists (blindFlange s plates) r = tt
+
+      again : (s : Sheet) → withPlates [] (withPlates (1 ∷ []) s) ≡ withPlates [] s
+      again (malformed line) = refl
+      again (endplate s plates) = refl
+      again (blindFlange s plates) = refl
+
+  pub report-as-it-was :
+      IsRead (formerSheetOf (sheetText us [])) →
+      reportFor (sheetText us (ascii "none")) ≡ reportText (answered (formerSheetOf (sheetText us [])))
+  unfolding answerOf
+  report-as-it-was r = ap (λ (s : Sheet). reportText (answered s)) (as-it-was r)
+
+-- ---- rows of it
+
+-- an end of 500 mm; at 1.080 N/mm² it needs 25.00 mm
+abbrev endOf : String → String → List String
+endOf pressure plates =
+    "part=end"
+    ∷ "form=c"
+    ∷ "material=1"
+    ∷ "shell=1"
+    ∷ "temp=150"
+    ∷ pressure
+    ∷ "dia=5000"
+    ∷ "allow=0"
+    ∷ plates
+    ∷ []
+
+-- a sheet and its report: just a plate of the stock and just above one; its total; what is no list
+abbrev table : List (List String × List String)
+table =
+    (endOf "pressure=1080" "plates=", "stress=108" ∷ "need=2500" ∷ "total=2500" ∷ "plate=2500" ∷ [])
+    ∷ (endOf "pressure=1081" "plates=", "stress=108" ∷ "need=2502" ∷ "total=2502" ∷ "plate=3000" ∷ [])
+    ∷ (endOf "pressure=1080" "plates=none", "refused=14" ∷ "place=2500" ∷ [])
+    ∷ (endOf "pressure=2001" "plates=none", "refused=3" ∷ "place=0" ∷ [])
+    ∷ (endOf "pressure=1080" "plates=None", "refused=1" ∷ "place=9" ∷ [])
+    ∷ (endOf "pressure=1080" "plates=nonE", "refused=1" ∷ "place=9" ∷ [])
+    ∷ (endOf "pressure=1080" "plates=none,300", "refused=1" ∷ "place=9" ∷ [])
+    ∷ (endOf "pressure=1080" "plates=3000,", "refused=1" ∷ "place=9" ∷ [])
+    ∷ []
+
+rows : map (λ row. reportFor (textOf (row .0))) table ≡ map (λ row. textOf (row .1)) table
+unfolding column designStress ceilDiv wholeRootBy leastRoot leastRootOver endplateStress endplateThickness endplateFigures
+    endplateCauses firstOf endplateSizing smallestServing standardPlates endplateAnswer indexOf indexAfter before after valueOf
+    numberOf numbersListed platesOf decimal numberLine reportText lineOf platesLine linesOf partOf sheetOf answerOf
+rows = refl

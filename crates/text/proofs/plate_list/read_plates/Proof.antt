@@ -1,0 +1,35 @@
+-- `plate_list::read_plates` meets its contract. Assumes nothing.
+use borrow.Author.Needs.{needs}
+use borrow.Author.Tests.{eq-eqb, ne-eqb}
+use Rattle.text.specs.Plates.{platesOf}
+use Rattle.text.proofs.plate_list.read_plates.Statement.{statement}
+use Rattle.text.proofs.plate_list.read_plates.Tie as tie
+
+returns : tie.Need-returns
+unfolding platesOf
+returns c = rw (eq-eqb _ 0 (c .before .if1 .taken)) (c .standard .ensures)
+
+returns-2 : tie.Need-returns-2
+unfolding platesOf
+returns-2 c =
+    let b = c .before .before in
+    rw (ne-eqb _ 0 (b .before .before .if1 .left), ← b .is-word .ensures, c .before .if2 .taken) (c .no-plates .ensures)
+
+returns-3 : tie.Need-returns-3
+unfolding platesOf
+returns-3 c =
+    let b = c .before .before in
+    rw (ne-eqb _ 0 (b .before .before .if1 .left), ← b .is-word .ensures, c .before .if2 .left) (c .listed .ensures)
+
+pub read-plates-spec : {M : Type 1} → statement M
+read-plates-spec =
+    tie.close
+    (tie.spec
+    (λ c κs. search needs)
+    returns
+    (λ c. search needs)
+    (λ c κs. search needs)
+    (λ c κs. search needs)
+    returns-2
+    (λ c κs. search needs)
+    returns-3)
