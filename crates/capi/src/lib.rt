@@ -1,6 +1,4 @@
 // What C calls. include/scantling.h says it for C, with the units and ranges.
-use rules::BlindFlangeSheet;
-use rules::EndplateSheet;
 ghost use Prim.Native.Nat.{_≤_};
 ghost use mathlib.Core.Path.{_≡_};
 ghost use Rattle.root.specs.Root.{leastRoot};
@@ -12,8 +10,11 @@ ghost use Rattle.sheet.specs.Exact.{SheetExact};
 ghost use Rattle.capi.specs.Call.{endplateCall, blindFlangeCall};
 ghost use Rattle.capi.specs.Places.{figureAt, EndplateFigureExact, BlindFlangeFigureExact};
 
+mod call;
 mod places;
 
+use call::blind_flange_call;
+use call::endplate_call;
 use places::figure_at;
 
 // One figure of an endplate, by its place. The plates are bytes, four to a plate, lowest first.
@@ -36,7 +37,7 @@ pub extern "C" fn scantling_endplate(
         let s = endplateCall form material shell temperature pressure diameter allowance in
         ⌜ EndplateFigureExact s (endplateAnswer s (platesIn (now (plates .entry)))) place r ⌝ }
 {
-    let sheet = EndplateSheet {
+    let sheet = endplate_call(
         form,
         material,
         shell,
@@ -44,7 +45,7 @@ pub extern "C" fn scantling_endplate(
         pressure,
         diameter,
         allowance,
-    };
+    );
     figure_at(rules::endplate_from_bytes(sheet, plates), place)
 }
 
@@ -79,7 +80,7 @@ pub extern "C" fn scantling_blind_flange(
         blindFlangeCall material temperature pressure allowance od width rib «rib_width» m y circle bolt root count sa sb in
         ⌜ BlindFlangeFigureExact s (blindFlangeAnswer s (platesIn (now (plates .entry)))) place r ⌝ }
 {
-    let sheet = BlindFlangeSheet {
+    let sheet = blind_flange_call(
         material,
         temperature,
         pressure,
@@ -96,7 +97,7 @@ pub extern "C" fn scantling_blind_flange(
         count,
         sa,
         sb,
-    };
+    );
     figure_at(rules::blind_flange_from_bytes(sheet, plates), place)
 }
 
@@ -119,7 +120,7 @@ pub extern "C" fn scantling_endplate_standard(
         let s = endplateCall form material shell temperature pressure diameter allowance in
         ⌜ EndplateFigureExact s (endplateAnswer s standardPlates) place r ⌝ }
 {
-    let sheet = EndplateSheet {
+    let sheet = endplate_call(
         form,
         material,
         shell,
@@ -127,7 +128,7 @@ pub extern "C" fn scantling_endplate_standard(
         pressure,
         diameter,
         allowance,
-    };
+    );
     figure_at(rules::endplate_standard(sheet), place)
 }
 
@@ -161,7 +162,7 @@ pub extern "C" fn scantling_blind_flange_standard(
         blindFlangeCall material temperature pressure allowance od width rib «rib_width» m y circle bolt root count sa sb in
         ⌜ BlindFlangeFigureExact s (blindFlangeAnswer s standardPlates) place r ⌝ }
 {
-    let sheet = BlindFlangeSheet {
+    let sheet = blind_flange_call(
         material,
         temperature,
         pressure,
@@ -178,7 +179,7 @@ pub extern "C" fn scantling_blind_flange_standard(
         count,
         sa,
         sb,
-    };
+    );
     figure_at(rules::blind_flange_standard(sheet), place)
 }
 

@@ -17,11 +17,11 @@ mod loads;
 mod sizing;
 mod thickness;
 
-use plates::standard_plates;
 use sizing::blind_flange_sizing;
 use sizing::endplate_sizing;
 use sizing::from_bytes;
 use sizing::from_plates;
+use sizing::from_standard;
 
 // The figures of an endplate's report but for the plate.
 pub struct EndplateFigures {
@@ -129,8 +129,7 @@ pub fn endplate_standard(s: EndplateSheet) -> Answer
         ⌜ (causeOf r ≡ endplateCause s ps) × (figureOf r ≡ endplateFigure s ps) × (reportOf r ≡ endplateReport s ps) ⌝ }
     ensures exact { λ r. ⌜ EndplateExact s r ⌝ }
 {
-    let stock = standard_plates();
-    endplate(s, &stock)
+    from_standard(endplate_sizing(s))
 }
 
 // The same of a blind flange.
@@ -143,6 +142,5 @@ pub fn blind_flange_standard(s: BlindFlangeSheet) -> Answer
         × (reportOf r ≡ blindFlangeReport s ps) ⌝ }
     ensures exact { λ r. ⌜ BlindFlangeExact s r ⌝ }
 {
-    let stock = standard_plates();
-    blind_flange(s, &stock)
+    from_standard(blind_flange_sizing(s))
 }

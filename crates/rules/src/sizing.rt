@@ -10,8 +10,9 @@ use crate::gasket;
 use plates::Choice;
 use plates::smallest_serving;
 use plates::smallest_serving_from_bytes;
+use plates::standard_plates;
 ghost use mathlib.Core.Path.{_≡_};
-ghost use Rattle.plates.specs.Plates.{platesIn};
+ghost use Rattle.plates.specs.Plates.{platesIn, standardPlates};
 ghost use Rattle.rules.specs.Answer.{endplateSizing, blindFlangeSizing, totalOf, withPlate, fromPlates};
 
 // The causes that are worked from loads and total: the bolts do not carry; no listed plate serves.
@@ -118,5 +119,14 @@ pub(crate) fn from_bytes(sizing: Sizing, bytes: &[u8]) -> Answer
     ensures { λ r. ⌜ r ≡ fromPlates sizing (platesIn (now (bytes .entry))) ⌝ }
 {
     let choice = smallest_serving_from_bytes(total_of(sizing), bytes);
+    with_plate(sizing, choice)
+}
+
+// The same of the usual stock.
+pub(crate) fn from_standard(sizing: Sizing) -> Answer
+    ensures { λ r. ⌜ r ≡ fromPlates sizing standardPlates ⌝ }
+{
+    let stock = standard_plates();
+    let choice = smallest_serving(total_of(sizing), &stock);
     with_plate(sizing, choice)
 }

@@ -7,7 +7,8 @@ use Rattle.capi.proofs.scantling_endplate.Tie as tie
 returns : tie.Need-returns
 returns c =
     let answer = c .before .endplate-from-bytes .ensures in
-    endplate-placed _ _ (answer .0) (answer .1 .1) (c .figure-at .ensures)
+    let sheet = c .before .before .endplate-call .ensures in
+    endplate-placed _ sheet (answer .0) (answer .1 .1) (c .figure-at .ensures)
 
 pub scantling-endplate-spec : {M : Type 1} → statement M
-scantling-endplate-spec = tie.close (tie.spec (λ c κs. search needs) (λ c κs. search needs) returns)
+scantling-endplate-spec = tie.close (tie.spec (λ c κs. search needs) (λ c κs. search needs) (λ c κs. search needs) returns)
