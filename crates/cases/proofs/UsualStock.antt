@@ -2,7 +2,7 @@
 -- it was. Assumes nothing.
 use Prim.Native.Nat.{ℕ, _+_}
 use Prim.Native.String.{String}
-use mathlib.Core.Bool.{Bool, true, false, cond, _&&_, false≢true, and-eq-true-iff}
+use mathlib.Core.Bool.{Bool, true, false, cond, not, false≢true, and-eq-true-iff}
 use mathlib.Core.List.{List, [], _∷_, _++_, map, append-nil}
 use mathlib.Core.Option.{Option, none, some}
 use mathlib.Core.Path.{_≡_, refl, sym, ap, _∙_}
@@ -45,20 +45,49 @@ formerPlates v = cond (eqb (length v) 0) (some []) (numbersListed mostPlates v)
 abbrev pub formerSheetOf : List ℕ → Sheet
 formerSheetOf text = sheetBy formerPlates text
 
--- ---- every other value is read as it was
+-- ---- every other plates line is read as it was
 
--- the value of a text's plates line, after the lines of a blind flange or of an endplate
-abbrev platesValue : Bool → List ℕ → List ℕ
-platesValue blind text = valueOf (ascii "plates") (past (fieldsOf blind) (after lineFeed text))
+-- what stands after the lines of the fields, where the plates line must be
+abbrev pub afterFields : List ℕ → List ℕ
+afterFields text = past (fieldsOf (not (isPart (ascii "end") text))) (after lineFeed text)
 
-pub read-as-before :
+-- a plates line there says neither nothing nor none
+abbrev pub Neither : List ℕ → Type 0
+Neither t =
+    let v = valueOf (ascii "plates") t in
+    isLine (ascii "plates") t ≡ true →
+    (eqb (length v) 0 ≡ false) × (same (ascii "none") v ≡ false)
+
+part-as-before :
     (blind : Bool) (text : List ℕ) →
-    eqb (length (platesValue blind text)) 0 ≡ false →
-    same (ascii "none") (platesValue blind text) ≡ false →
+    Neither (past (fieldsOf blind) (after lineFeed text)) →
     partOf blind text ≡ partBy formerPlates blind text
 unfolding platesOf
-read-as-before blind text some-value not-none =
-    sym (present-part blind text) ∙ agree platesOf formerPlates blind text (rw (some-value, not-none))
+part-as-before blind text n = sym (present-part blind text) ∙ agree platesOf formerPlates blind text (by-line _ refl)
+  where
+    t : List ℕ
+    t = past (fieldsOf blind) (after lineFeed text)
+
+    by-line :
+        (b : Bool) →
+        isLine (ascii "plates") t ≡ b →
+        let v = valueOf (ascii "plates") t in
+        cond b (platesOf v) none ≡ cond b (formerPlates v) none
+    by-line true e = rw (n e .0, n e .1)
+    by-line false e = refl
+
+pub read-as-before : (text : List ℕ) → Neither (afterFields text) → sheetOf text ≡ formerSheetOf text
+unfolding sheetOf
+read-as-before text n = by-part (isPart (ascii "end") text) (isPart (ascii "blind") text) n
+  where
+    by-part :
+        (end blind : Bool) →
+        Neither (past (fieldsOf (not end)) (after lineFeed text)) →
+        byPart end blind (partOf false text) (partOf true text)
+        ≡ byPart end blind (partBy formerPlates false text) (partBy formerPlates true text)
+    by-part true blind n = part-as-before false text n
+    by-part false true n = part-as-before true text n
+    by-part false false n = refl
 
 -- ---- a sheet with a list of one plate or more keeps its report
 
@@ -99,7 +128,7 @@ line-lists line (f ∷ fs) t g =
     later (Value x) (fault k) g = absurd g
     later Malformed rest g = absurd g
 
--- the word by itself
+-- what begins with s is s and a rest; what is the same as s is s
 begun : (s t : List ℕ) → begins s t ≡ true → (rest : List ℕ) × (t ≡ s ++ rest)
 begun [] t e = (t, refl)
 begun (b ∷ s) [] e = absurd (false≢true e)
@@ -123,56 +152,45 @@ none-unlisted : (v : List ℕ) → same (ascii "none") v ≡ true → numbersLis
 unfolding numbersListed numberOf before indexOf indexAfter
 none-unlisted v e = rw (word (ascii "none") v e)
 
--- and is read as it was
-value-kept : (v : List ℕ) → OneOrMore (formerPlates v) → platesOf v ≡ formerPlates v
-unfolding platesOf
-value-kept v g = by-value (eqb (length v) 0) (same (ascii "none") v) refl g
+value-neither :
+    (v : List ℕ) → OneOrMore (formerPlates v) → (eqb (length v) 0 ≡ false) × (same (ascii "none") v ≡ false)
+value-neither v g = by-value (eqb (length v) 0) refl (same (ascii "none") v) refl g
   where
     by-value :
-        (empty is-none : Bool) →
+        (empty : Bool) →
+        eqb (length v) 0 ≡ empty →
+        (is-none : Bool) →
         same (ascii "none") v ≡ is-none →
-        let listed = numbersListed mostPlates v in
-        OneOrMore (cond empty (some []) listed) →
-        cond empty (some standardPlates) (cond is-none (some []) listed) ≡ cond empty (some []) listed
-    by-value true is-none e g = absurd g
-    by-value false true e g = absurd (rw (none-unlisted v e) at g)
-    by-value false false e g = refl
+        OneOrMore (cond empty (some []) (numbersListed mostPlates v)) →
+        (eqb (length v) 0 ≡ false) × (same (ascii "none") v ≡ false)
+    by-value true e is-none n g = absurd g
+    by-value false e true n g = absurd (rw (none-unlisted v n) at g)
+    by-value false e false n g = (e, n)
 
-line-kept : (t : List ℕ) → OneOrMore (platesBy formerPlates t) → platesBy platesOf t ≡ platesBy formerPlates t
-line-kept t g = by-line (isLine (ascii "plates") t) g
-  where
-    by-line :
-        (b : Bool) →
-        let v = valueOf (ascii "plates") t in
-        OneOrMore (cond b (formerPlates v) none) →
-        cond b (platesOf v) none ≡ cond b (formerPlates v) none
-    by-line true g = value-kept (valueOf (ascii "plates") t) g
-    by-line false g = absurd g
+neither : (t : List ℕ) → OneOrMore (platesBy formerPlates t) → Neither t
+neither t g e = value-neither (valueOf (ascii "plates") t) (rw e at g)
 
-part-kept : (blind : Bool) (text : List ℕ) → Lists (partBy formerPlates blind text) → partOf blind text ≡ partBy formerPlates blind text
-part-kept blind text g =
-    let fs = fieldsOf blind in
-    let t = after lineFeed text in
-    let lists = lines-of blind (linesBy formerPlates 2 fs t) g in
-    sym (present-part blind text) ∙ agree platesOf formerPlates blind text (line-kept (past fs t) (line-lists 2 fs t lists))
+text-lists : (text : List ℕ) → Lists (formerSheetOf text) → OneOrMore (platesBy formerPlates (afterFields text))
+text-lists text g = by-part (isPart (ascii "end") text) (isPart (ascii "blind") text) g
   where
-    lines-of : (blind : Bool) (l : Lines) → Lists (read blind l) → LinesList l
-    lines-of true (given v plates) g = g
-    lines-of false (given v plates) g = g
-    lines-of blind (fault k) g = absurd g
+    t : List ℕ
+    t = after lineFeed text
 
-pub kept : (text : List ℕ) → Lists (formerSheetOf text) → sheetOf text ≡ formerSheetOf text
-unfolding sheetOf
-kept text g = by-part (isPart (ascii "end") text) (isPart (ascii "blind") text) g
-  where
+    lines-list : (blind : Bool) (l : Lines) → Lists (read blind l) → LinesList l
+    lines-list true (given v plates) g = g
+    lines-list false (given v plates) g = g
+    lines-list blind (fault k) g = absurd g
+
     by-part :
         (end blind : Bool) →
-        let former = byPart end blind (partBy formerPlates false text) (partBy formerPlates true text) in
-        Lists former →
-        byPart end blind (partOf false text) (partOf true text) ≡ former
-    by-part true blind g = part-kept false text g
-    by-part false true g = part-kept true text g
-    by-part false false g = refl
+        Lists (byPart end blind (partBy formerPlates false text) (partBy formerPlates true text)) →
+        OneOrMore (platesBy formerPlates (past (fieldsOf (not end)) t))
+    by-part true blind g = line-lists 2 (fieldsOf false) t (lines-list false (linesBy formerPlates 2 (fieldsOf false) t) g)
+    by-part false true g = line-lists 2 (fieldsOf true) t (lines-list true (linesBy formerPlates 2 (fieldsOf true) t) g)
+    by-part false false g = absurd g
+
+pub kept : (text : List ℕ) → Lists (formerSheetOf text) → sheetOf text ≡ formerSheetOf text
+kept text g = read-as-before text (neither (afterFields text) (text-lists text g))
 
 pub report-kept : (text : List ℕ) → Lists (formerSheetOf text) → reportFor text ≡ reportText (answered (formerSheetOf text))
 unfolding answerOf
@@ -182,6 +200,10 @@ report-kept text g = ap (λ (s : Sheet). reportText (answered s)) (kept text g)
 
 abbrev pub writtenOut : List ℕ
 writtenOut = ascii "300,400,500,600,800,1000,1200,1500,2000,2500,3000,4000,5000"
+
+written-out : platesOf writtenOut ≡ some standardPlates
+unfolding platesOf standardPlates numbersListed numberOf before after indexOf indexAfter
+written-out = refl
 
 -- a sheet's lines up to the plates'
 module _ (us : List (List ℕ)) (lines : AreLines us) where
@@ -197,10 +219,6 @@ module _ (us : List (List ℕ)) (lines : AreLines us) where
       sym (present (sheetText us value))
       ∙ other-plates platesOf value other plates others l l' e e' us lines
       ∙ ap (withPlates plates) (present (sheetText us other))
-
-  written-out : platesOf writtenOut ≡ some standardPlates
-  unfolding platesOf standardPlates numbersListed numberOf before after indexOf indexAfter
-  written-out = refl
 
   pub standard-written : sheetOf (sheetText us []) ≡ sheetOf (sheetText us writtenOut)
   unfolding platesOf indexOf indexAfter
