@@ -13,9 +13,9 @@ struct compare {
     uint64_t roots;
     uint64_t accuracy; /* accepted answers judged by the exact inequalities */
     uint64_t thin;     /* of them, blind flanges with a need or an edge from 0.50 mm to 4.00 mm */
-    uint64_t standard; /* questions of the calls without a list */
-    uint64_t stocks[PAPER_STOCKS]; /* sheets whose plates line was read, by what it names */
     uint64_t fraction; /* and those whose bolts carry the loads in tenths and would not carry them in whole newtons */
+    uint64_t standard; /* questions of the calls without a list */
+    uint64_t stocks[PAPER_STOCKS]; /* sheets that meet no cause 1, by what their plates line names */
     uint64_t question_accepted[PARTS], sheet_accepted[PARTS];
     uint64_t question_causes[CAUSES]; /* what the numeric calls were asked, by cause */
     uint64_t sheet_causes[CAUSES];    /* likewise; CAUSE_SPACE counts the short spaces */

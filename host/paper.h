@@ -94,10 +94,10 @@ struct paper_part {
 };
 extern const struct paper_part paper_parts[PARTS]; /* a text of PART_NONE is refused: it has the keys for that alone */
 
-/* What a plates line names: nothing of it yet, a list, the usual stock, no plate. */
+/* What a plates line names; PAPER_UNREAD where none was read. */
 enum paper_stock { PAPER_UNREAD, PAPER_LISTED, PAPER_STANDARD, PAPER_NONE, PAPER_STOCKS };
 
-/* What a sheet holds, and its figures by place. Under cause 1 only the figures and the stock are to be read. */
+/* What a sheet holds, and its figures by place. Under cause 1 only the figures are to be read. */
 struct paper_answer {
     enum part part;
     enum paper_stock stock;

@@ -73,7 +73,7 @@ enum scantling_cause {
     SCANTLING_BAD_BOLT_STRESS = 11,  /* sa or sb */
     SCANTLING_BAD_BOLT_CIRCLE = 12,
     SCANTLING_BOLTS_OVERLOADED = 13, /* the bolts do not carry the loads */
-    SCANTLING_NO_PLATE = 14,         /* no listed plate serves; figure: the total, hundredths of a mm */
+    SCANTLING_NO_PLATE = 14,         /* no plate of the list or stock serves; figure: the total, hundredths of a mm */
     SCANTLING_SHORT_SPACE = 15       /* of a sheet only: what is returned is above the length lent */
 };
 
