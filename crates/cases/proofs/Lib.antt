@@ -11,4 +11,5 @@ mod RenewedSheets
 mod WholeNewtons
 mod LoadsInTenths
 mod OtherPlates
+mod FormerPlates
 mod UsualStock
