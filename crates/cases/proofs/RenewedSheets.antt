@@ -18,7 +18,6 @@ use Rattle.rules.specs.Answer.{blindFlangeAnswer}
 use Rattle.text.specs.Ascii.{ascii, lineFeed}
 use Rattle.text.specs.Line.{isLine, valueOf, before, after}
 use Rattle.text.specs.Number.{numberOf}
-use Rattle.text.specs.Laws.Joined.{Lacks}
 use Rattle.text.specs.declared.number.Number.{Number}
 use Rattle.text.specs.declared.number.Number.the-variants.{Value, Malformed}
 use Rattle.report.specs.Report.{reportText}
