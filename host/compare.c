@@ -102,7 +102,7 @@ static void compare_both(struct compare *compare, struct question *question)
     static struct text text;
     draw_plates(&compare->rng, 0, PAPER_SHEET_PLATES, question);
     if (rng_one_in(&compare->rng, 4))
-        draw_standard_plates(&compare->rng, question);
+        give_standard_plates(question);
     write_sheet(question, &text);
     compare_question(compare, question);
     compare_sheet(compare, &text);

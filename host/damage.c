@@ -262,7 +262,8 @@ static void other_line(struct rng *rng, struct text *text)
 {
     static const char *const lines[] = {
         "part=end\n", "part=blind\n", "form=c\n", "shell=1\n", "dia=5000\n", "od=5000\n", "width=100\n", "rib=0\n",
-        "ribw=0\n", "sb=100\n", "temp=150\n", "plates=2500\n", "plates=\n", "plates=none\n", "refused=1\n", "\n", "=\n", "temp\n"};
+        "ribw=0\n", "sb=100\n", "temp=150\n", "plates=2500\n", "plates=\n", "plates=none\n", "refused=1\n", "\n", "=\n",
+        "temp\n"};
     struct line line = any_line(rng, text);
     splice(text, line.start, rng_one_in(rng, 2) ? line.length : 0, "", 0);
     insert(text, line.start, lines[rng_below(rng, sizeof lines / sizeof lines[0])]);
@@ -308,8 +309,8 @@ static void random_bytes(struct rng *rng, struct text *text)
 
 static void (*const damages[])(struct rng *, struct text *) = {
     change_byte, drop_byte, double_byte, drop_line, double_line, move_line, swap_lines, one_crlf, all_crlf,
-    drop_last_lf, cut_short, many_plates, faulty_plates, other_stock, long_number, put_before_value, put_after_value, empty_value,
-    zero_value, other_word, foreign_byte, upper_case, space_about_equals, other_line, other_key, no_rib_lines,
+    drop_last_lf, cut_short, many_plates, faulty_plates, other_stock, long_number, put_before_value, put_after_value,
+    empty_value, zero_value, other_word, foreign_byte, upper_case, space_about_equals, other_line, other_key, no_rib_lines,
     trailing_bytes, no_text, random_bytes, long_value};
 const uint32_t damage_count = sizeof damages / sizeof damages[0];
 

@@ -209,11 +209,13 @@ void meet_standard_plate(int step, struct question *question)
 {
     uint64_t figures[PAPER_PLACES];
     uint32_t *allowance = &question->numbers[question->part == PART_END ? END_ALLOWANCE : BLIND_ALLOWANCE];
-    *allowance = 0;
     give_plates(question, NULL, 0);
     question_figures(question, figures);
-    for (size_t i = 0; i < PAPER_STANDARD_PLATES && figures[PLACE_CAUSE] == CAUSE_PLATE; i++) {
-        const int64_t more = (int64_t)paper_standard_plates[i] + step - (int64_t)figures[PLACE_FIGURE];
+    if (figures[PLACE_CAUSE] != CAUSE_PLATE)
+        return;
+    const int64_t without = (int64_t)figures[PLACE_FIGURE] - *allowance;
+    for (size_t i = 0; i < PAPER_STANDARD_PLATES; i++) {
+        const int64_t more = (int64_t)paper_standard_plates[i] + step - without;
         if (more >= 0 && more <= 1000) {
             *allowance = (uint32_t)more;
             return;

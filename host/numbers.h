@@ -37,7 +37,8 @@ void give_standard_plates(struct question *question);
 /* least to most plates about the total of the numbers, some far away. */
 void draw_plates(struct rng *rng, uint32_t least, uint32_t most, struct question *question);
 
-/* The allowance with which the total is the smallest plate of the usual stock that it can be, and step; 0 if there is none. */
+/* The allowance with which the total is the smallest plate of the usual stock that it can be, and step. As it was where
+   there is none, or a cause before 14. */
 void meet_standard_plate(int step, struct question *question);
 
 /* The usual stock, half the time with such an allowance, of a step of -1, 0 or 1. */

@@ -1,19 +1,18 @@
 -- The plates line as it was read before R-8, and the sheets that are read the same: every one whose plates line says neither
 -- nothing nor none. Assumes nothing.
 use Prim.Native.Nat.{ℕ, _+_}
-use mathlib.Core.Bool.{Bool, true, false, cond, not, false≢true, and-eq-true-iff}
-use mathlib.Core.List.{List, [], _∷_, _++_, append-nil}
+use mathlib.Core.Bool.{Bool, true, false, cond, not}
+use mathlib.Core.List.{List, [], _∷_}
 use mathlib.Core.Option.{Option, none, some}
 use mathlib.Core.Path.{_≡_, refl, sym, ap, _∙_}
-use native.Mathlib.Omega.{arith}
-use borrow.Author.Tests.{eqb-true}
 use lib.Dec.{eqb}
-use lib.ListN.{length, length-append}
+use lib.ListN.{length}
 use Rattle.bytes.specs.Bytes.{indexOf, indexAfter}
 use Rattle.text.specs.Ascii.{ascii, lineFeed}
-use Rattle.text.specs.Line.{begins, same, isLine, valueOf, before, after}
+use Rattle.text.specs.Line.{same, isLine, valueOf, before, after}
 use Rattle.text.specs.Number.{numberOf}
 use Rattle.text.specs.Plates.{mostPlates, numbersListed, platesOf}
+use Rattle.text.specs.Laws.Begins.{same-equal}
 use Rattle.text.specs.declared.number.Number.{Number}
 use Rattle.text.specs.declared.number.Number.the-variants.{Value, Malformed}
 use Rattle.report.specs.Report.{reportText}
@@ -113,29 +112,10 @@ line-lists line (f ∷ fs) t g =
     later (Value x) (fault k) g = absurd g
     later Malformed rest g = absurd g
 
--- what begins with s is s and a rest; what is the same as s is s
-begun : (s t : List ℕ) → begins s t ≡ true → (rest : List ℕ) × (t ≡ s ++ rest)
-begun [] t e = (t, refl)
-begun (b ∷ s) [] e = absurd (false≢true e)
-begun (b ∷ s) (x ∷ t) e =
-    let h = and-eq-true-iff (eqb x b) (begins s t) .0 e in
-    let r = begun s t (h .1) in
-    (r .0, ap (λ (y : ℕ). y ∷ t) (eqb-true x b (h .0)) ∙ ap (λ (y : List ℕ). b ∷ y) (r .1))
-
-word : (s t : List ℕ) → same s t ≡ true → t ≡ s
-word s t e =
-    let h = and-eq-true-iff (eqb (length t) (length s)) (begins s t) .0 e in
-    let r = begun s t (h .1) in
-    alone (r .0) (r .1) (omega (arith, eqb-true (length t) (length s) (h .0), ap length (r .1), length-append s (r .0)))
-  where
-    alone : (rest : List ℕ) → t ≡ s ++ rest → length rest ≡ 0 → t ≡ s
-    alone [] q z = q ∙ append-nil s
-    alone (x ∷ rest) q z = absurd (omega (arith, z))
-
 -- none lists no numbers
 none-unlisted : (v : List ℕ) → same (ascii "none") v ≡ true → numbersListed mostPlates v ≡ none
 unfolding numbersListed numberOf before indexOf indexAfter
-none-unlisted v e = rw (word (ascii "none") v e)
+none-unlisted v e = rw (same-equal (ascii "none") v e)
 
 value-neither :
     (v : List ℕ) → OneOrMore (formerPlates v) → (eqb (length v) 0 ≡ false) × (same (ascii "none") v ≡ false)

@@ -1,12 +1,12 @@
 -- A line by itself, whatever follows it in the text. Assumes nothing.
 use Prim.Native.Nat.{ℕ, zero, suc, _+_, _-_, _<_}
-use mathlib.Core.Bool.{Bool, true, false, _&&_, false≢true, and-false}
+use mathlib.Core.Bool.{Bool, true, false, not, _&&_, _||_, false≢true, and-false, and-eq-true-iff}
 use mathlib.Core.List.{List, [], _∷_, _++_}
 use mathlib.Core.Path.{_≡_, refl, sym, ap, subst, _∙_}
 use native.Mathlib.Nat.{sub-zero}
 use native.Mathlib.Omega.{arith}
 use borrow.Author.Tests.{eqb-true, eqb-false, ne-eqb, ltb-true, lt-ltb}
-use lib.Dec.{eqb}
+use lib.Dec.{T, eqb}
 use lib.ListN.{length, take, drop, getD, length-append}
 use lib.Seq.{take-append-seam, drop-append-add}
 use Rattle.bytes.specs.Bytes.{indexOf, indexAfter}
@@ -22,6 +22,30 @@ use Rattle.sheet.specs.Sheet.{isPart}
 abbrev pub withoutLf : Field → Bool
 withoutLf field = eqb (indexOf lineFeed (ascii (field .0))) (length (ascii (field .0)))
 
+-- keys that differ before either ends
+abbrev pub differs : List ℕ → List ℕ → Bool
+differs [] other = false
+differs (b ∷ key) [] = false
+differs (b ∷ key) (x ∷ other) = not (eqb x b) || differs key other
+
+-- a text that begins with one of them does not begin with the other
+pub begins-other : (key other t : List ℕ) → T (differs key other) → begins other t ≡ true → begins key t ≡ false
+begins-other [] other t d e = absurd d
+begins-other (b ∷ key) [] t d e = absurd d
+begins-other (b ∷ key) (x ∷ other) [] d e = refl
+begins-other (b ∷ key) (x ∷ other) (y ∷ t) d e =
+    let h = and-eq-true-iff (eqb y x) (begins other t) .0 e in
+    by-first (eqb y b) (ap (λ (z : ℕ). eqb z b) (sym (eqb-true y x (h .0)))) d (λ d'. begins-other key other t d' (h .1))
+  where
+    by-first :
+        (same : Bool) →
+        eqb x b ≡ same →
+        T (not (eqb x b) || differs key other) →
+        (T (differs key other) → begins key t ≡ false) →
+        (same && begins key t) ≡ false
+    by-first true q d later = later (rw q at d)
+    by-first false q d later = refl
+
 -- a line that shows a number is a line of its key
 abbrev IsValue : Number → Type 0
 IsValue (Value x) = Unit
@@ -35,6 +59,13 @@ is-line key reader t x e = by-test (isLine key t) refl
     by-test : (b : Bool) → isLine key t ≡ b → isLine key t ≡ true
     by-test true h = h
     by-test false h = absurd (subst IsValue (sym (rw h at e)) tt)
+
+-- a line begins with its key
+pub key-begins : (key t : List ℕ) → isLine key t ≡ true → begins key t ≡ true
+key-begins key t e =
+    let is-equals = eqb (getD t (length key) 0) equals in
+    let both = and-eq-true-iff (begins key t && is-equals) (contains lineFeed t) .0 e .0 in
+    and-eq-true-iff (begins key t) is-equals .0 both .0
 
 -- a line has an LF
 pub lf-found : (key t : List ℕ) → isLine key t ≡ true → indexOf lineFeed t < length t

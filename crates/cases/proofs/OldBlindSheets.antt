@@ -1,16 +1,14 @@
 -- Blind sheets in the old form, without the lines rib and ribw (R-4): each is refused by 1 at line 8. Assumes nothing.
 use Prim.Native.Nat.{ℕ, _+_}
-use mathlib.Core.Bool.{Bool, true, false, cond, _&&_, false≢true}
+use mathlib.Core.Bool.{Bool, true, false, cond}
 use mathlib.Core.List.{List, [], _∷_, _++_}
 use mathlib.Core.Path.{_≡_, refl, ap, _∙_}
 use native.Mathlib.Omega.{arith}
-use borrow.Author.Tests.{eqb-true}
-use lib.Dec.{eqb}
-use lib.ListN.{length, take, drop, getD}
+use lib.ListN.{length, take, drop}
 use Rattle.rules.specs.declared.Answer.{Answer}
 use Rattle.rules.specs.declared.Answer.the-variants.{Refused}
-use Rattle.text.specs.Ascii.{ascii, equals, lineFeed}
-use Rattle.text.specs.Line.{contains, isLine, after}
+use Rattle.text.specs.Ascii.{ascii, lineFeed}
+use Rattle.text.specs.Line.{isLine, after}
 use Rattle.text.specs.Number.{numberOf}
 use Rattle.text.specs.declared.number.Number.{Number}
 use Rattle.text.specs.declared.number.Number.the-variants.{Value, Malformed}
@@ -23,7 +21,7 @@ use Rattle.sheet.specs.Sheet.{partOf, sheetOf, answered, answerOf}
 use Rattle.sheet.specs.Outcome.{reportFor}
 use Rattle.cases.proofs.Starred.{textOf}
 use Rattle.cases.proofs.PassPartitionRibs.{formerAnswer, formerEndplateAnswer, endplate-kept}
-use Rattle.cases.proofs.LineByItself.{is-line}
+use Rattle.cases.proofs.LineByItself.{begins-other, is-line, key-begins}
 
 -- ---- the former sheet: its fields are those up to the width and those from m on
 
@@ -98,16 +96,7 @@ other-fields (f ∷ fs) gs hs h line t g =
 
 -- a line of m is none of rib
 not-rib : (t : List ℕ) → isLine (ascii "m") t ≡ true → isLine (ascii "rib") t ≡ false
-not-rib [] e = absurd (false≢true e)
-not-rib (x ∷ t) e = by-first (eqb x 109) refl e
-  where
-    by-first :
-        (m : Bool) →
-        eqb x 109 ≡ m →
-        (m && true && eqb (getD t 0 0) equals && contains lineFeed (x ∷ t)) ≡ true →
-        isLine (ascii "rib") (x ∷ t) ≡ false
-    by-first true q e = rw (eqb-true x 109 q)
-    by-first false q e = absurd (false≢true e)
+not-rib t e = rw (begins-other (ascii "rib") (ascii "m") t tt (key-begins (ascii "m") t e))
 
 m-for-rib :
     (line : ℕ) (t : List ℕ) →

@@ -1,6 +1,6 @@
 -- Sheets that differ in their plates alone: another reading of the plates line, or another plates line. Assumes nothing.
 use Prim.Native.Nat.{ℕ, _+_}
-use mathlib.Core.Bool.{Bool, true, false, cond, not, _&&_, _||_}
+use mathlib.Core.Bool.{Bool, true, false, cond, _&&_}
 use mathlib.Core.List.{List, [], _∷_, _++_}
 use mathlib.Core.Option.{Option, none, some}
 use mathlib.Core.Path.{_≡_, refl, ap, _∙_}
@@ -12,7 +12,7 @@ use lib.ListN.{length, length-append}
 use Rattle.bytes.specs.Bytes.{indexOf, indexAfter}
 use Rattle.tables.specs.TableRule.{every, both}
 use Rattle.text.specs.Ascii.{ascii, lineFeed}
-use Rattle.text.specs.Line.{begins, isLine, valueOf, after}
+use Rattle.text.specs.Line.{isLine, valueOf, after}
 use Rattle.text.specs.Plates.{platesOf}
 use Rattle.text.specs.Laws.Joined.{Lacks}
 use Rattle.text.specs.declared.number.Number.{Number}
@@ -20,7 +20,8 @@ use Rattle.text.specs.declared.number.Number.the-variants.{Value, Malformed}
 use Rattle.lines.specs.Fields.{Field, lineOf, fieldOf, fieldsOf}
 use Rattle.lines.specs.Lines.{Lines, fault, given, ahead, platesLine, lastLine, linesOf}
 use Rattle.sheet.specs.Sheet.{Sheet, malformed, endplate, blindFlange, read, isPart, partOf, sheetOf}
-use Rattle.cases.proofs.LineByItself.{ended, value-line, after-line, is-same, value-same, line-same, part-same, withoutLf}
+use Rattle.cases.proofs.LineByItself.{withoutLf, differs, begins-other, ended, after-line, value-line}
+use Rattle.cases.proofs.LineByItself.{is-same, value-same, line-same, part-same}
 
 -- ---- another reading
 
@@ -95,46 +96,27 @@ AreLines [] = Unit
 AreLines (u ∷ us) = Lacks lineFeed u × AreLines us
 
 -- the same with other plates
-abbrev restocked : List ℕ → Lines → Lines
-restocked plates (fault k) = fault k
-restocked plates (given v others) = given v plates
+abbrev linesWith : List ℕ → Lines → Lines
+linesWith plates (fault k) = fault k
+linesWith plates (given v others) = given v plates
 
 abbrev pub withPlates : List ℕ → Sheet → Sheet
 withPlates plates (malformed line) = malformed line
 withPlates plates (endplate s others) = endplate s plates
 withPlates plates (blindFlange s others) = blindFlange s plates
 
-ahead-restocked :
+ahead-with :
     (plates : List ℕ) (line : ℕ) (n : Number) (l : Lines) →
-    ahead line n (restocked plates l) ≡ restocked plates (ahead line n l)
-ahead-restocked plates line (Value x) (fault k) = refl
-ahead-restocked plates line (Value x) (given v others) = refl
-ahead-restocked plates line Malformed l = refl
+    ahead line n (linesWith plates l) ≡ linesWith plates (ahead line n l)
+ahead-with plates line (Value x) (fault k) = refl
+ahead-with plates line (Value x) (given v others) = refl
+ahead-with plates line Malformed l = refl
 
-read-restocked : (plates : List ℕ) (blind : Bool) (l : Lines) → read blind (restocked plates l) ≡ withPlates plates (read blind l)
-read-restocked plates true (fault k) = refl
-read-restocked plates false (fault k) = refl
-read-restocked plates true (given v others) = refl
-read-restocked plates false (given v others) = refl
-
--- bytes that differ from those of a key before either ends
-abbrev differs : List ℕ → List ℕ → Bool
-differs [] t = false
-differs (b ∷ key) [] = false
-differs (b ∷ key) (x ∷ t) = not (eqb x b) || differs key t
-
-begins-not : (key t rest : List ℕ) → T (differs key t) → begins key (t ++ rest) ≡ false
-begins-not [] t rest d = absurd d
-begins-not (b ∷ key) [] rest d = absurd d
-begins-not (b ∷ key) (x ∷ t) rest d = by-first (eqb x b) (begins-not key t rest) d
-  where
-    by-first :
-        (same : Bool) →
-        (T (differs key t) → begins key (t ++ rest) ≡ false) →
-        T (not same || differs key t) →
-        (same && begins key (t ++ rest)) ≡ false
-    by-first true later d = later d
-    by-first false later d = refl
+read-with : (plates : List ℕ) (blind : Bool) (l : Lines) → read blind (linesWith plates l) ≡ withPlates plates (read blind l)
+read-with plates true (fault k) = refl
+read-with plates false (fault k) = refl
+read-with plates true (given v others) = refl
+read-with plates false (given v others) = refl
 
 -- a key without LF that no plates line begins with
 abbrev otherKey : Field → Bool
@@ -172,7 +154,7 @@ module _ (reading : Reading) where
         (us : List (List ℕ)) →
         AreLines us →
         (line : ℕ) →
-        linesBy reading line fs (sheetText us value) ≡ restocked plates (linesBy reading line fs (sheetText us other))
+        linesBy reading line fs (sheetText us value) ≡ linesWith plates (linesBy reading line fs (sheetText us other))
     unfolding lineOf indexOf indexAfter
     other-lines [] k [] a line = rw (last-line value plates l e line, last-line other others l' e' line)
     other-lines [] k (u ∷ us) a line =
@@ -189,15 +171,15 @@ module _ (reading : Reading) where
       where
         by-plates :
             (o : Option (List ℕ)) →
-            lastLine line o (sheetText us value) ≡ restocked plates (lastLine line o (sheetText us other))
+            lastLine line o (sheetText us value) ≡ linesWith plates (lastLine line o (sheetText us other))
         by-plates none = refl
         by-plates (some ps) = rw (some-text us value, some-text us other)
     other-lines (f ∷ fs) k [] a line =
         let d = both (withoutLf f) _ (both (otherKey f) (every otherKey fs) k .0) .1 in
         let key = ascii (f .0) in
         rw (
-          begins-not key (ascii "plates=") (value ++ lineFeed ∷ []) d,
-          begins-not key (ascii "plates=") (other ++ lineFeed ∷ []) d,
+          begins-other key (ascii "plates=") (sheetText [] value) d refl,
+          begins-other key (ascii "plates=") (sheetText [] other) d refl,
         )
     other-lines (f ∷ fs) k (u ∷ us) a line =
         let w = both (otherKey f) (every otherKey fs) k in
@@ -207,7 +189,7 @@ module _ (reading : Reading) where
         let n = fieldOf f (u ++ lineFeed ∷ t') in
         rw (line-same u (a .0) (ascii (f .0)) t t' lf (f .1), after-line u (a .0) t, after-line u (a .0) t')
         (ap (ahead line n) (other-lines fs (w .1) us (a .1) (line + 1))
-        ∙ ahead-restocked plates line n (linesBy reading (line + 1) fs t'))
+        ∙ ahead-with plates line n (linesBy reading (line + 1) fs t'))
 
     -- the same sheet with another plates line has the same numbers, or the same line at fault
     pub other-plates :
@@ -236,7 +218,7 @@ module _ (reading : Reading) where
             read blind (lines-of blind value) ≡ withPlates plates (read blind (lines-of blind other))
         part blind k =
             ap (read blind) (other-lines (fieldsOf blind) k us (a .1) 2)
-            ∙ read-restocked plates blind (lines-of blind other)
+            ∙ read-with plates blind (lines-of blind other)
 
         by-part :
             (end blind : Bool) →

@@ -1,17 +1,17 @@
 -- Parts of a text: what it begins with, and what stands around a byte. Assumes nothing.
 use Prim.Native.Nat.{ℕ, _+_, _-_, _≤_}
-use mathlib.Core.Bool.{Bool, true, false, _&&_, and-false, false≢true}
-use mathlib.Core.List.{List, [], _∷_, _++_, append-nil}
+use mathlib.Core.Bool.{Bool, true, false, and-false}
+use mathlib.Core.List.{List, [], _++_, append-nil}
 use mathlib.Core.Path.{_≡_, refl, sym, ap, _∙_}
 use native.Mathlib.Nat.{le-refl}
 use native.Mathlib.Omega.{arith}
-use borrow.Author.Tests.{eqb-true, eq-eqb}
-use lib.Dec.{eqb}
+use borrow.Author.Tests.{eq-eqb}
 use lib.ListN.{length, take, drop, drop-of-length-le, take-append-drop, List·getD-eq-default}
 use lib.Seq.{take-all}
 use Rattle.bytes.specs.Bytes.{slice, indexOf}
 use Rattle.text.specs.Ascii.{lineFeed}
 use Rattle.text.specs.Line.{begins, same, isLine, after, valueOf}
+use Rattle.text.specs.Laws.Begins.{begins-take, same-equal}
 use Rattle.text.specs.Laws.Joined.{begins-append}
 
 -- the slice of all of t is t
@@ -41,16 +41,6 @@ take-begins s t e =
     sym (take-append-drop (length s) t) ∙ ap (λ (p : List ℕ). p ++ drop (length s) t) e in
     ap (begins s) whole ∙ begins-append s (drop (length s) t)
 
-begins-take : (s t : List ℕ) → begins s t ≡ true → take (length s) t ≡ s
-begins-take [] t e = refl
-begins-take (b ∷ s) [] e = absurd (false≢true e)
-begins-take (b ∷ s) (x ∷ t) e = go (eqb x b) refl e (begins-take s t)
-  where
-    go : (same : Bool) → eqb x b ≡ same → (same && begins s t) ≡ true
-        → (begins s t ≡ true → take (length s) t ≡ s) → x ∷ take (length s) t ≡ b ∷ s
-    go true h q rest = rw (eqb-true x b h, rest q)
-    go false h q rest = absurd (false≢true q)
-
 -- two tests that hold together are one
 told : (r b : Bool) → (r ≡ true → b ≡ true) → (b ≡ true → r ≡ true) → r ≡ b
 told true b f g = sym (f refl)
@@ -64,18 +54,12 @@ front-same s t r h = told r (begins s t) (λ e. take-begins s t (h .0 e)) (λ e.
 
 pub text-same : (s t : List ℕ) (r : Bool) → (r ≡ true → t ≡ s) × (t ≡ s → r ≡ true) → r ≡ same s t
 text-same s t r h =
-    told r (same s t) (λ e. equal-same (h .0 e)) (λ e. h .1 (same-equal (eqb (length t) (length s)) refl e))
+    told r (same s t) (λ e. equal-same (h .0 e)) (λ e. h .1 (same-equal s t e))
   where
     equal-same : t ≡ s → same s t ≡ true
     equal-same e =
         rw (e, eq-eqb (length s) (length s) refl)
         (ap (begins s) (sym (append-nil s)) ∙ begins-append s [])
-
-    same-equal : (sized : Bool) → eqb (length t) (length s) ≡ sized → (sized && begins s t) ≡ true → t ≡ s
-    same-equal true n e =
-        let size = eqb-true (length t) (length s) n in
-        sym (take-all (length s) t (omega (arith, size))) ∙ begins-take s t e
-    same-equal false n e = absurd (false≢true e)
 
 -- a text no longer than the key is no line of it: it has no =
 pub line-short : (key t : List ℕ) → length t ≤ length key → isLine key t ≡ false

@@ -31,7 +31,8 @@ numbersListed (suc k) t =
     let more = numbersListed k (after comma t) in
     numberBefore (numberOf (before comma t)) (cond (contains comma t) more (some []))
 
--- the plates that a value names (document 02, R-8)
+-- plates: nothing after the = stands for the usual stock, none for an empty list (document 02, R-8); any other value lists
+-- numbers
 unfoldable pub platesOf : List ℕ → Option (List ℕ)
 platesOf v =
     let listed = numbersListed mostPlates v in

@@ -21,6 +21,7 @@ pub struct Plates {
     pub list: [u32; 32],
 }
 
+// An empty list, or a malformed one.
 fn no_plates(ok: bool) -> Plates
     ensures { λ r. ⌜ r ≡ held ok [] ⌝ }
 {
