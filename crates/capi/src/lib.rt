@@ -1,4 +1,6 @@
 // What C calls. include/scantling.h says it for C, with the units and ranges.
+#![tactic(auto)]
+
 ghost use Rattle.std.specs.Prelude.{◌≤◌, ◌≡◌};
 ghost use Rattle.root.specs.Root.{least_root};
 ghost use Rattle.plates.specs.Plates.{plates_in, standard_plates};

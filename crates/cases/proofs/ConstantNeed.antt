@@ -1,6 +1,6 @@
 -- A constant need breaks demand 3 by itself, from the exact inequalities of two ends alone. Assumes nothing.
 use Rattle.std.proofs.Common.{◌≡◌, ℕ, ◌*◌, ◌≤◌, List, [], ◌∷◌, length, sym, refl, ◌∙◌, arith}
-use Rattle.bytes.specs.Bytes.{index_of, index_after}
+use Rattle.text.specs.Index.{index_of, index_after}
 use Rattle.tables.specs.DesignStress.{column, design_stress_of}
 use Rattle.root.specs.Least.{◌≥◌, Least, least_most}
 use Rattle.root.specs.Laws.{square_le}

@@ -2,7 +2,7 @@
 -- sheets named here. Assumes nothing.
 use Rattle.std.proofs.Common.{◌≡◌, ℕ, ◌≤◌, List, length, get_or, take, replicate, sym, refl, ap, ◌∙◌, arith}
 use Prim.Native.String.{String}
-use Rattle.bytes.specs.Bytes.{index_of, index_after}
+use Rattle.text.specs.Index.{index_of, index_after}
 use Rattle.rules.specs.Answer.{Accepted}
 use Rattle.rules.specs.declared.Answer.{Answer}
 use Rattle.rules.specs.declared.Answer.TheVariants.{Endplate, BlindFlange, Refused as Answer-as-Refused}

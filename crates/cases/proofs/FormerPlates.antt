@@ -2,7 +2,7 @@
 -- nothing nor none. Assumes nothing.
 use Rattle.std.proofs.Common.{◌≡◌, ℕ, ◌+◌, Bool, true, false, cond, not, eqb, List, [], ◌∷◌, length, sym, refl, ap, ◌∙◌}
 use mathlib.Core.Option.{Option, none, some}
-use Rattle.bytes.specs.Bytes.{index_of, index_after}
+use Rattle.text.specs.Index.{index_of, index_after}
 use Rattle.text.specs.Ascii.{ascii, line_feed}
 use Rattle.text.specs.Line.{same, is_line, value_of, before, after}
 use Rattle.text.specs.Number.{number_of}

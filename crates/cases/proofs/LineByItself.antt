@@ -4,7 +4,7 @@ use mathlib.Core.Bool.{false≢true, and-false, and-eq-true_iff}
 use native.Mathlib.Nat.{sub-zero}
 use borrow.Author.Tests.{eqb-false}
 use lib.Seq.{take-append_seam, drop-append-add}
-use Rattle.bytes.specs.Bytes.{index_of, index_after}
+use Rattle.text.specs.Index.{index_of, index_after}
 use Rattle.text.specs.Ascii.{ascii, equals, line_feed}
 use Rattle.text.specs.Line.{begins, contains, is_line, value_of, before, after}
 use Rattle.text.specs.Laws.Joined.{Lacks, lacks_cons, index_append}

@@ -5,7 +5,7 @@ use mathlib.Core.Bool.{and-eq-true_iff}
 use mathlib.Core.Option.{Option, none, some}
 use lib.Ieee.Bits.{is_true}
 use lib.Seq.{get_or_at}
-use Rattle.bytes.specs.Bytes.{index_of, index_after}
+use Rattle.text.specs.Index.{index_of, index_after}
 use Rattle.tables.specs.TableRule.{every, both}
 use Rattle.limits.specs.declared.BlindFlangeSheet.{BlindFlangeSheet}
 use Rattle.rules.specs.Answer.{blind_flange_answer}

@@ -1,4 +1,6 @@
 // The numbers of the two sheets, and the limits that they keep to: causes 2 to 12 and 17 of a refusal, in checking order.
+#![tactic(auto)]
+
 mod causes;
 mod stress;
 

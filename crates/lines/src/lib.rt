@@ -1,4 +1,6 @@
 // The lines of a sheet after the first, from their bytes to numbers and plates.
+#![tactic(auto)]
+
 pub mod blind_flange;
 pub mod endplate;
 mod fields;

@@ -1,4 +1,6 @@
 // What a plate is, and the choice of one from a list. A plate is its thickness, in hundredths of a mm.
+#![tactic(auto)]
+
 ghost use Rattle.std.specs.Prelude.{◌≡◌};
 ghost use Rattle.plates.specs.Plates.{better, smallest_serving, plates_in, standard_plates, Smallest};
 

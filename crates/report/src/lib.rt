@@ -1,4 +1,6 @@
 // The report of an answer, laid into lent space.
+#![tactic(auto)]
+
 mod lines;
 
 ghost use Rattle.std.specs.Prelude.{◌≤◌, ◌≡◌, length};

@@ -1,4 +1,6 @@
 // Quotients and roots of whole numbers, rounded up.
+#![tactic(auto)]
+
 ghost use Rattle.std.specs.Prelude.{◌≡◌, ◌+◌, ◌*◌, ◌/◌, ◌%◌, ◌^◌, ◌≤◌, ◌<◌};
 ghost use Rattle.root.specs.Root.{ceil_div, least_root, least_root_over};
 

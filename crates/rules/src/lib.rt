@@ -1,4 +1,6 @@
 // Sizing of flat endplates and blind flanges to BS 853-2:1996, clauses 5 and 8, on whole numbers.
+#![tactic(auto)]
+
 ghost use Rattle.std.specs.Prelude.{◌≡◌};
 ghost use Rattle.rules.specs.Answer.{endplate_answer, blind_flange_answer};
 ghost use Rattle.rules.specs.Answer.{cause_of, figure_of, report_of};

@@ -1,4 +1,6 @@
 // Reads one sheet on standard input, at most 4,096 bytes of it, and prints its report.
+#![tactic(auto)]
+
 ghost use Rattle.std.specs.Prelude.{◌≤◌, ◌≡◌, length, take};
 ghost use Rattle.report.specs.Report.{longest};
 ghost use Rattle.sheet.specs.Outcome.{report_for};

@@ -1,4 +1,6 @@
 // A sheet of key=value lines from its bytes to its report.
+#![tactic(auto)]
+
 mod answers;
 
 ghost use Rattle.std.specs.Prelude.{◌≤◌, ◌≡◌};

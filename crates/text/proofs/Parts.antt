@@ -1,23 +1,37 @@
 -- Parts of a text: what it begins with, and what stands around a byte. Assumes nothing.
-use Prim.Native.Nat.{ℕ, ◌+◌, ◌-◌, ◌≤◌}
+use Prim.Native.Nat.{ℕ, suc, ◌+◌, ◌-◌, ◌≤◌, ◌<◌}
 use mathlib.Core.Bool.{Bool, true, false, and-false}
 use mathlib.Core.List.{List, [], ◌++◌, append-nil}
 use mathlib.Core.Path.{◌≡◌, refl, sym, ap, ◌∙◌}
 use native.Mathlib.Nat.{le_refl}
 use native.Mathlib.Omega.{arith}
-use borrow.Author.Tests.{eq-eqb}
-use lib.ListN.{length, take, drop, drop_of_length-le, take-append-drop, get_or-eq_default}
+use borrow.Author.Tests.{eq-eqb, ne_eqb}
+use native.Mathlib.Numerals.{add-one}
+use lib.Seq.{drop-cons}
+use lib.ListN.{length, take, drop, get_or, drop_of_length-le, take-append-drop, get_or-eq_default}
 use lib.Seq.{take_all}
-use Rattle.bytes.specs.Bytes.{slice, index_of}
+use Rattle.text.specs.Index.{index_of, index_after}
 use Rattle.text.specs.Ascii.{line_feed}
 use Rattle.text.specs.Line.{begins, same, is_line, after, value_of}
 use Rattle.text.specs.Laws.Begins.{begins-take, same_equal}
 use Rattle.text.specs.Laws.Joined.{begins-append}
 
--- the slice of all of t is t
-pub slice_all : (t : List ℕ) → slice 0 (length t) t ≡ t
-unfolding slice
-slice_all t = take_all (length t) t (le_refl _)
+-- b at place i is the first from there on, or another byte leaves the search to what follows
+pub index_here : (b i : ℕ) (t : List ℕ) → i < length t → get_or t i 0 ≡ b → index_of b (drop i t) ≡ 0
+unfolding index_of index_after
+index_here b i t h e = rw (drop-cons t i 0 h) (rw (eq-eqb (get_or t i 0) b e))
+
+pub index_later :
+    (b i : ℕ) (t : List ℕ) →
+    i < length t →
+    (get_or t i 0 ≡ b → ⊥) →
+    index_of b (drop i t) ≡ suc (index_of b (drop (i + 1) t))
+unfolding index_of index_after
+index_later b i t h n = rw (drop-cons t i 0 h) (rw (ne_eqb (get_or t i 0) b n, add-one))
+
+pub index_nowhere : (b i : ℕ) (t : List ℕ) → length t ≤ i → index_of b (drop i t) ≡ 0
+unfolding index_of
+index_nowhere b i t h = rw (drop_of_length-le t h)
 
 -- nothing stands after a byte that t does not have
 pub after_none : (b : ℕ) (t : List ℕ) → length t ≤ index_of b t → drop (index_of b t) t ≡ after b t

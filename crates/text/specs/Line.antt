@@ -1,6 +1,6 @@
 -- A line: key, =, value, one LF.
 use Rattle.std.specs.Prelude.{ℕ, ◌+◌, ◌-◌, Bool, true, false, ◌&&◌, List, [], ◌∷◌, eqb, ltb, length, take, drop, get_or}
-use Rattle.bytes.specs.Bytes.{index_of}
+use Rattle.text.specs.Index.{index_of}
 use Rattle.text.specs.Ascii.{line_feed, equals}
 
 -- s is what t begins with, byte for byte

@@ -1,4 +1,6 @@
 // Reading lines of key, `=`, value, LF: a value as a part of the line, a number, a list of plates.
+#![tactic(auto)]
+
 mod line;
 mod number;
 mod plate_list;

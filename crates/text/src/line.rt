@@ -1,7 +1,7 @@
 // A line: key, `=`, value, one LF.
 ghost use Rattle.std.specs.Prelude.{◌≡◌, ◌≤◌, length};
-ghost use Rattle.bytes.specs.Bytes.{index_of};
 ghost use Rattle.text.specs.Ascii.{line_feed};
+ghost use Rattle.text.specs.Index.{index_of};
 ghost use Rattle.text.specs.Line.{contains, before, after, same, is_line, value_of};
 
 const LINE_FEED: u8 = b'\n';
@@ -12,7 +12,12 @@ const EQUALS: u8 = b'=';
 fn first(t: &[u8], b: u8) -> usize
     ensures { (result ≡ index_of b t.now) × (result ≤ length t.now) }
 {
-    bytes::scan::find(t, 0, t.len(), b)
+    for (i, x) in t.iter().enumerate() {
+        if *x == b {
+            return i;
+        }
+    }
+    t.len()
 }
 
 // Whether a byte is among those of t.
@@ -49,14 +54,14 @@ pub fn is_line(t: &[u8], key: &[u8]) -> bool
     if t.len() <= size {
         return false;
     }
-    check::same(&t[..size], key) & (t[size] == EQUALS) & has(t, LINE_FEED)
+    (&t[..size] == key) & (t[size] == EQUALS) & has(t, LINE_FEED)
 }
 
 // Whether a value is this word.
 pub fn is_word(v: &[u8], word: &[u8]) -> bool
     ensures { result ≡ same word.now v.now }
 {
-    check::same(v, word)
+    v == word
 }
 
 // The value of the line that t begins with: the part of t between the `=` after the key and the LF.

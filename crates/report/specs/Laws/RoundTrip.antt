@@ -10,7 +10,7 @@ use native.Mathlib.Omega.{arith}
 use borrow.Author.Tests.{eqb-true, eqb-false, ne_eqb, lt-ltb}
 use Rattle.std.proofs.Math.ListN.{length}
 use Rattle.std.proofs.Math.Seq.{drop-append_seam, take-append_seam}
-use Rattle.bytes.specs.Bytes.{index_of, index_after}
+use Rattle.text.specs.Index.{index_of, index_after}
 use Rattle.text.specs.Ascii.{equals, line_feed}
 use Rattle.text.specs.Line.{contains, begins, same, is_line, value_of}
 use Rattle.report.specs.Decimal.{decimal, number_line}

@@ -1,7 +1,7 @@
 -- The decimal of a number, digit by digit, and that it is read back as that number. Assumes nothing.
 use Rattle.std.specs.Prelude.{ℕ, zero, suc, ◌+◌, ◌-◌, ◌*◌, ◌/◌, ◌%◌, ◌≤◌, ◌<◌, Bool, true, false, cond, List, [], ◌∷◌, ◌++◌, ◌≡◌, refl, ltb, length}
 use Rattle.std.proofs.Common.{ap, ◌∙◌, arith, ltb-true, ltb-false, le-leb, lt-ltb, le-ltb, ne_eqb, length-append}
-use Rattle.bytes.specs.Bytes.{index_of, index_after}
+use Rattle.text.specs.Index.{index_of, index_after}
 use Rattle.text.specs.Ascii.{line_feed}
 use Rattle.text.specs.Number.{is_digit, digits_after}
 use Rattle.report.specs.Decimal.{digits_of, decimal}

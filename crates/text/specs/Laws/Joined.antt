@@ -1,7 +1,7 @@
 -- Texts joined: what the whole begins with, and where a byte is in it. Assumes nothing.
 use Rattle.std.specs.Prelude.{ℕ, suc, ◌+◌, Bool, true, false, List, [], ◌∷◌, ◌++◌, ◌≡◌, refl, eqb, length}
 use Rattle.std.proofs.Common.{arith, eq-eqb}
-use Rattle.bytes.specs.Bytes.{index_of, index_after}
+use Rattle.text.specs.Index.{index_of, index_after}
 use Rattle.text.specs.Line.{begins}
 
 pub begins-append : (s t : List ℕ) → begins s (s ++ t) ≡ true

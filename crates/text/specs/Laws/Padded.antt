@@ -1,6 +1,6 @@
 -- An array that is filled with a list, number by number. Assumes nothing.
 use Rattle.std.specs.Prelude.{ℕ, suc, ◌+◌, ◌-◌, ◌≤◌, ◌<◌, List, ◌∷◌, ◌≡◌, length, take, drop, set, get_or, replicate}
-use Rattle.std.proofs.Common.{sym, ap, ◌∙◌, add-one, arith, take-append-drop, drop-cons, drop_set_lt, length-take-le}
+use Rattle.std.proofs.Common.{sym, ap, ◌∙◌, add-one, arith, take-append-drop, drop-cons, drop-set-lt, length-take-le}
 use Rattle.text.specs.Padded.{padded}
 
 -- past one number more the array is still 0
@@ -10,7 +10,7 @@ zeros_after places l c x h e z =
     let k : places - c ≡ suc (places - (c + 1)) = omega arith in
     let p : get_or l c 0 ∷ drop (suc c) l ≡ replicate (suc (places - (c + 1))) 0 =
     sym (drop-cons l c 0 (omega arith)) ∙ z ∙ rw k in
-    drop_set_lt (c + 1) l c x (omega arith) ∙ ap (λ (j : ℕ). drop j l) (add-one c) ∙ ap (drop 1) p
+    drop-set-lt (c + 1) l c x (omega arith) ∙ ap (λ (j : ℕ). drop j l) (add-one c) ∙ ap (drop 1) p
 
 -- an array that is 0 past its first c places holds those
 pub zeros_fill : (places : ℕ) (l : List ℕ) (c : ℕ) → c ≤ length l → drop c l ≡ replicate (places - c) 0
