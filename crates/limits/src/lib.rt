@@ -8,7 +8,7 @@ pub use causes::{bolting_limits, endplate_cause, flange_limits};
 pub use stress::endplate_stress;
 
 // The numbers of an endplate's sheet, in the order of its lines.
-#[derive(Drop)]
+#[derive(Clone, Copy)]
 pub struct EndplateSheet {
     // form: 1, 2, 3 for a, c, d.
     pub form: u32,
@@ -27,7 +27,7 @@ pub struct EndplateSheet {
 }
 
 // The numbers of a blind flange's sheet, in the order of its lines.
-#[derive(Drop)]
+#[derive(Clone, Copy)]
 pub struct BlindFlangeSheet {
     // material: 1 to 11.
     pub material: u32,

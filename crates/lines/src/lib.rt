@@ -17,7 +17,7 @@ use text::{Number, Plates, is_line, malformed_plates, next_line, read_plates, va
 pub const MOST_FIELDS: usize = blind_flange::FIELDS;
 
 // The numbers of the fields, in order, and as many plates as `count` says; or the number of the first line at fault.
-#[derive(Drop)]
+#[derive(Clone, Copy)]
 pub struct SheetLines {
     pub ok: bool,
     pub fault: u32,

@@ -9,7 +9,7 @@ mod bytes;
 use bytes::number_at;
 
 // The plate chosen from a list.
-#[derive(Drop)]
+#[derive(Clone, Copy)]
 pub enum Choice {
     Plate(u32),
     NoPlate,

@@ -22,7 +22,7 @@ pub fn ceil_div(n: u64, d: u64) -> u64
 
 // The whole root of a number and what is left over: the number less the root's square, at most twice the root.
 // Where the number is below 2^62, the sum of the fields has both: they pass between calls as one u64, in a register.
-#[derive(Drop)]
+#[derive(Clone, Copy)]
 struct Whole {
     // the root, from bit 32 on
     high: u64,

@@ -10,7 +10,7 @@ use crate::BlindFlangeSheet;
 use crate::loads::{operating_load, seating_load};
 
 // The gasket of a blind flange and its loads, for the test of the circle, that of the bolts, and the figures.
-#[derive(Drop)]
+#[derive(Clone, Copy)]
 pub(crate) struct Gasket {
     // g, G: tenths of a mm.
     pub reaction_diameter: u32,

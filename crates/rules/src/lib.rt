@@ -22,7 +22,7 @@ mod thickness;
 use sizing::{blind_flange_sizing, endplate_sizing, from_bytes, from_plates, from_standard};
 
 // The figures of an endplate's report but for the plate.
-#[derive(Drop)]
+#[derive(Clone, Copy)]
 pub struct EndplateFigures {
     // stress, F: N/mm².
     pub design_stress: u64,
@@ -33,7 +33,7 @@ pub struct EndplateFigures {
 }
 
 // The figures of a blind flange's report but for the plate.
-#[derive(Drop)]
+#[derive(Clone, Copy)]
 pub struct BlindFlangeFigures {
     // stress, S: N/mm².
     pub design_stress: u64,
@@ -58,7 +58,7 @@ pub struct BlindFlangeFigures {
 }
 
 // What a calculation answers. The figure of a refusal is the total where no plate serves, else 0.
-#[derive(Drop)]
+#[derive(Clone, Copy)]
 pub enum Answer {
     Endplate {
         figures: EndplateFigures,

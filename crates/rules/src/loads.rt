@@ -9,8 +9,8 @@ use crate::compare::greater;
 
 // Wm1, of the ring and of a rib with its own b.
 pub(crate) fn operating_load(g: u32, b: u64, rib: u32, br: u64, m: u32, pressure: u32) -> u64
-    requires g_le_most_diameter { (g ≤ most_diameter) × (b ≤ most_effective_width) × (m ≤ most_factor) × (pressure ≤ most_pressure) }
-    requires rib_le_most_rib { (rib ≤ most_rib) × (br ≤ most_effective_width) }
+    requires ring_bounded { (g ≤ most_diameter) × (b ≤ most_effective_width) × (m ≤ most_factor) × (pressure ≤ most_pressure) }
+    requires rib_bounded { (rib ≤ most_rib) × (br ≤ most_effective_width) }
     ensures { result ≡ operating_load_of (exact_operating_load g b rib br m pressure) }
 {
     let g = g as u64;
@@ -24,8 +24,8 @@ pub(crate) fn operating_load(g: u32, b: u64, rib: u32, br: u64, m: u32, pressure
 
 // Wm2, of both.
 pub(crate) fn seating_load(g: u32, b: u64, rib: u32, br: u64, y: u32) -> u64
-    requires g_le_most_diameter { (g ≤ most_diameter) × (b ≤ most_effective_width) × (y ≤ most_factor) }
-    requires rib_le_most_rib { (rib ≤ most_rib) × (br ≤ most_effective_width) }
+    requires ring_bounded { (g ≤ most_diameter) × (b ≤ most_effective_width) × (y ≤ most_factor) }
+    requires rib_bounded { (rib ≤ most_rib) × (br ≤ most_effective_width) }
     ensures { result ≡ seating_load_of (exact_seating_load g b rib br y) }
 {
     let y = y as u64;

@@ -15,7 +15,7 @@ const BOLTS_OVERLOADED: u32 = 13;
 const NO_PLATE: u32 = 14;
 
 // The figures of a part before its plate is chosen, or the first cause to refuse it.
-#[derive(Drop)]
+#[derive(Clone, Copy)]
 pub(crate) enum Sizing {
     Endplate(EndplateFigures),
     BlindFlange(BlindFlangeFigures),

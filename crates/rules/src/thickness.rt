@@ -35,8 +35,8 @@ pub(crate) fn flange_thickness(
     circle: u32,
     operating: u64,
 ) -> u64
-    requires stress_le_most_stress { (stress ≤ most_stress) × (pressure ≤ most_pressure) × (operating ≤ most_load) }
-    requires g_le_most_diameter { (g ≤ most_diameter) × (g ≤ circle) × (circle ≤ g + most_lever) }
+    requires stress_and_load { (stress ≤ most_stress) × (pressure ≤ most_pressure) × (operating ≤ most_load) }
+    requires diameters { (g ≤ most_diameter) × (g ≤ circle) × (circle ≤ g + most_lever) }
     ensures { result ≡ flange_thickness stress g pressure circle operating }
 {
     let d = g as u64;
@@ -47,8 +47,8 @@ pub(crate) fn flange_thickness(
 
 // The edge that a stress and a load ask for.
 fn edge_under(stress: u32, g: u32, circle: u32, load: u64) -> u64
-    requires stress_le_most_stress { (stress ≤ most_stress) × (load ≤ most_load) }
-    requires g_le_most_diameter { (g ≤ most_diameter) × (g ≤ circle) × (circle ≤ g + most_lever) }
+    requires stress_and_load { (stress ≤ most_stress) × (load ≤ most_load) }
+    requires diameters { (g ≤ most_diameter) × (g ≤ circle) × (circle ≤ g + most_lever) }
     ensures { result ≡ edge_under stress g circle load }
 {
     let moment = MOMENT * load * ((circle - g) as u64);
@@ -64,8 +64,8 @@ pub(crate) fn edge_thickness(
     operating: u64,
     flange: u64,
 ) -> u64
-    requires stress_le_most_stress { (stress ≤ most_stress) × (ambient ≤ most_stress) × (operating ≤ most_load) × (flange ≤ most_load) }
-    requires g_le_most_diameter { (g ≤ most_diameter) × (g ≤ circle) × (circle ≤ g + most_lever) }
+    requires stress_and_load { (stress ≤ most_stress) × (ambient ≤ most_stress) × (operating ≤ most_load) × (flange ≤ most_load) }
+    requires diameters { (g ≤ most_diameter) × (g ≤ circle) × (circle ≤ g + most_lever) }
     ensures { result ≡ edge_thickness_of stress ambient g circle operating flange }
 {
     let ambient_edge = edge_under(ambient, g, circle, flange);

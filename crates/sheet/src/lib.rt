@@ -15,7 +15,7 @@ use answers::answer_to;
 use rules::Answer;
 
 // What became of a sheet; `length` is that of its report.
-#[derive(Drop)]
+#[derive(Clone, Copy)]
 pub enum Outcome {
     // The report of an accepted sheet is written.
     Report {

@@ -11,7 +11,7 @@ use plates::standard_plates;
 const COMMA: u8 = b',';
 
 // The plates are the first `count` of the list; the others are 0. Of a malformed list `ok` is false and it has none.
-#[derive(Drop)]
+#[derive(Clone, Copy)]
 pub struct Plates {
     pub ok: bool,
     pub count: usize,

@@ -4,7 +4,7 @@ use Rattle.text.proofs.Parts.{index_here, index_later, index_nowhere}
 use Rattle.text.proofs.line.first.Goals as goal
 
 pub returns-then-x-b : goal.returns-then-x-b
-returns-then-x-b c = 
+returns-then-x-b c =
     let here = index_here c.args.b c.loop-i.i c.args.t.now (omega arith) c.if-x-b.true in
     (omega (arith, here), omega arith)
 

@@ -8,7 +8,7 @@ use Rattle.text.proofs.number.read_number.Goals.{Else-digit-gt57, then-v-eq48+el
 pub loop-i-init : goal.loop-i-init
 loop-i-init c = (
   elim c.if-v-eq48.branch [
-    then-v-eq48+else-length-gt1 w ↦ number_single _ (omega arith) (omega arith)
+    | then-v-eq48+else-length-gt1 w ↦ number_single _ (omega arith) (omega arith)
     | else-v-eq48 w ↦ number_led _ (omega arith) (omega arith) w.if-v-eq48.false
   ],
   search rules,
