@@ -4,8 +4,7 @@ use mathlib.Core.List.{List, [], ◌∷◌, ◌++◌, append-nil}
 use mathlib.Core.Path.{◌≡◌, refl, sym, ap, ◌∙◌}
 use native.Mathlib.Nat.{le_of_eq, zero-add, add-zero, suc-add}
 use native.Mathlib.Omega.{arith}
-use borrow.Author.Rules.{part_to_end}
-use borrow.Rule.Slice.PartMut.{mid_of, put_mid}
+use borrow.Rule.Slice.PartMut.{put_mid}
 use lib.ListN.{length, take, drop, length-append, length-drop, drop_of_length-le, take-append-drop}
 use lib.Seq.{take_all, take-length, take-nil, drop-nil, drop-drop, take-append_seam}
 use Rattle.report.specs.Space.{written_at, Wrote}
@@ -52,14 +51,10 @@ followed_by {d} {d'} {d''} {s} {t} {at} {r} {r'} v w =
 
 -- ---- a whole text
 
--- copied over the front of the part of the space from at on
-pub copied : (d : List ℕ) (at : ℕ) (s : List ℕ)
-    → let part = mid_of at (length d - at) d in
-    put_mid at (length d - at) d (take (length s) s ++ drop (length s) part) ≡ written_at at s d
+-- copied over the k bytes of the space from at on
+pub copied : (d s : List ℕ) (at k : ℕ) → k ≡ length s → put_mid at k d s ≡ written_at at s d
 unfolding written_at
-copied d at s =
-    let none = drop_of_length-le (drop at d) {i = length d - at} (le_of_eq (length-drop at d)) in
-    rw (part_to_end d at, none, append-nil, take-length s, drop-drop)
+copied d s at k e = rw (drop-drop k at d, e)
 
 -- what a writer wrote from the front on is its first bytes
 pub front : {d d' s : List ℕ} {r : ℕ} → Wrote d 0 s r d' → take r d' ≡ s

@@ -24,7 +24,7 @@ pub fn write(answer: Answer, out: &mut [u8], at: usize) -> usize
     let length = spell(answer, &mut text);
     if at <= out.len() {
         if length <= out.len() - at {
-            bytes::copy(&text[..length], &mut out[at..]);
+            out[at..at + length].copy_from_slice(&text[..length]);
         }
     }
     length

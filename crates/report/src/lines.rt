@@ -12,8 +12,9 @@ fn put(out: &mut [u8], at: usize, text: &[u8]) -> usize
     requires { at + length text.now ≤ length out.old }
     ensures { Wrote out.old at text.now result out.new }
 {
-    bytes::copy(text, &mut out[at..]);
-    at + text.len()
+    let end = at + text.len();
+    out[at..end].copy_from_slice(text);
+    end
 }
 
 fn put_decimal(out: &mut [u8], at: usize, n: u64) -> usize

@@ -4,7 +4,7 @@ use mathlib.Core.List.{List}
 use mathlib.Core.Path.{◌≡◌, refl, ◌∙◌}
 use borrow.Author.Tests.{le-leb, lt-leb}
 use lib.ListN.{length}
-use Rattle.rules.specs.Answer.{cause_of as Answer·causeOf, figure_of as Answer·figureOf, report_of}
+use Rattle.rules.specs.Answer.{cause_of as answer_cause, figure_of as answer_figure, report_of}
 use Rattle.rules.specs.declared.Answer.{Answer}
 use Rattle.rules.specs.declared.Answer.TheVariants.{Endplate, BlindFlange, Refused}
 use Rattle.report.specs.Report.{report_text}
@@ -35,8 +35,8 @@ OutcomeTold text d r =
 
 -- those of a report that was written are the answer's
 written_numbers : (a : Answer) (n : ℕ)
-    → (cause_of (written a n) ≡ Answer·causeOf a)
-    × (figure_of (written a n) ≡ Answer·figureOf a)
+    → (cause_of (written a n) ≡ answer_cause a)
+    × (figure_of (written a n) ≡ answer_figure a)
     × (length_of (written a n) ≡ n)
 written_numbers (Endplate f plate) n = (refl, refl, refl)
 written_numbers (BlindFlange f plate) n = (refl, refl, refl)
