@@ -18,8 +18,7 @@ use call::{blind_flange_call, endplate_call};
 use places::figure_at;
 
 // One figure of an endplate, by its place. The plates are bytes, four to a plate, lowest first.
-#[unsafe(no_mangle)]
-pub extern "C" fn scantling_endplate(
+pub fn scantling_endplate(
     form: u32,
     material: u32,
     shell: u32,
@@ -30,7 +29,7 @@ pub extern "C" fn scantling_endplate(
     plates: &[u8],
     place: u32,
 ) -> u64
-    ensures result_value { let s = endplate_call form material shell temperature pressure diameter allowance in
+    ensures figure { let s = endplate_call form material shell temperature pressure diameter allowance in
         result ≡ figure_at (endplate_answer s (plates_in plates.now)) place }
     ensures exact { let s = endplate_call form material shell temperature pressure diameter allowance in
         EndplateFigureExact s (endplate_answer s (plates_in plates.now)) place result }
@@ -48,8 +47,7 @@ pub extern "C" fn scantling_endplate(
 }
 
 // One figure of a blind flange, in the same way.
-#[unsafe(no_mangle)]
-pub extern "C" fn scantling_blind_flange(
+pub fn scantling_blind_flange(
     material: u32,
     temperature: u32,
     pressure: u32,
@@ -69,7 +67,7 @@ pub extern "C" fn scantling_blind_flange(
     plates: &[u8],
     place: u32,
 ) -> u64
-    ensures result_value { let s =
+    ensures figure { let s =
         blind_flange_call material temperature pressure allowance od width rib rib_width m y circle bolt root count sa sb in
         result ≡ figure_at (blind_flange_answer s (plates_in plates.now)) place }
     ensures exact { let s =
@@ -98,8 +96,7 @@ pub extern "C" fn scantling_blind_flange(
 }
 
 // One figure of an endplate, by its place, with the plate from the usual stock.
-#[unsafe(no_mangle)]
-pub extern "C" fn scantling_endplate_standard(
+pub fn scantling_endplate_standard(
     form: u32,
     material: u32,
     shell: u32,
@@ -109,7 +106,7 @@ pub extern "C" fn scantling_endplate_standard(
     allowance: u32,
     place: u32,
 ) -> u64
-    ensures result_value { let s = endplate_call form material shell temperature pressure diameter allowance in
+    ensures figure { let s = endplate_call form material shell temperature pressure diameter allowance in
         result ≡ figure_at (endplate_answer s standard_plates) place }
     ensures exact { let s = endplate_call form material shell temperature pressure diameter allowance in
         EndplateFigureExact s (endplate_answer s standard_plates) place result }
@@ -127,8 +124,7 @@ pub extern "C" fn scantling_endplate_standard(
 }
 
 // One figure of a blind flange, in the same way.
-#[unsafe(no_mangle)]
-pub extern "C" fn scantling_blind_flange_standard(
+pub fn scantling_blind_flange_standard(
     material: u32,
     temperature: u32,
     pressure: u32,
@@ -147,7 +143,7 @@ pub extern "C" fn scantling_blind_flange_standard(
     sb: u32,
     place: u32,
 ) -> u64
-    ensures result_value { let s =
+    ensures figure { let s =
         blind_flange_call material temperature pressure allowance od width rib rib_width m y circle bolt root count sa sb in
         result ≡ figure_at (blind_flange_answer s standard_plates) place }
     ensures exact { let s =
@@ -177,8 +173,7 @@ pub extern "C" fn scantling_blind_flange_standard(
 
 // Answers the sheet in `text`: the length of the report that results. It stands at the front of `out` if that is long
 // enough; otherwise `out` is as it was.
-#[unsafe(no_mangle)]
-pub extern "C" fn scantling_sheet(text: &[u8], out: &mut [u8]) -> usize
+pub fn scantling_sheet(text: &[u8], out: &mut [u8]) -> usize
     ensures value { result ≡ length_for text.now }
     ensures content { out.new ≡ space_of text.now out.old }
     ensures exact { SheetExact text.now }
@@ -188,8 +183,7 @@ pub extern "C" fn scantling_sheet(text: &[u8], out: &mut [u8]) -> usize
 }
 
 // The least root by itself, for measuring.
-#[unsafe(no_mangle)]
-pub extern "C" fn scantling_least_root(n: u64) -> u64
+pub fn scantling_least_root(n: u64) -> u64
     ensures { result ≡ least_root n }
 {
     root::least_root(n)

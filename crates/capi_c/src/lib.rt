@@ -1,0 +1,192 @@
+// The exports of `capi` to C, under its names and with its promises. include/scantling.h says it for C.
+#![tactic(auto)]
+
+ghost use Rattle.std.specs.Prelude.{◌≤◌, ◌≡◌};
+ghost use Rattle.root.specs.Root.{least_root};
+ghost use Rattle.plates.specs.Plates.{plates_in, standard_plates};
+ghost use Rattle.rules.specs.Answer.{endplate_answer, blind_flange_answer};
+ghost use Rattle.report.specs.Report.{longest};
+ghost use Rattle.sheet.specs.Outcome.{length_for, space_of};
+ghost use Rattle.sheet.specs.Exact.{SheetExact};
+ghost use Rattle.capi.specs.Call.{endplate_call, blind_flange_call};
+ghost use Rattle.capi.specs.Places.{figure_at, EndplateFigureExact, BlindFlangeFigureExact};
+
+// One figure of an endplate, by its place. The plates are bytes, four to a plate, lowest first.
+#[unsafe(no_mangle)]
+pub extern "C" fn scantling_endplate(
+    form: u32,
+    material: u32,
+    shell: u32,
+    temperature: u32,
+    pressure: u32,
+    diameter: u32,
+    allowance: u32,
+    plates: &[u8],
+    place: u32,
+) -> u64
+    ensures figure { let s = endplate_call form material shell temperature pressure diameter allowance in
+        result ≡ figure_at (endplate_answer s (plates_in plates.now)) place }
+    ensures exact { let s = endplate_call form material shell temperature pressure diameter allowance in
+        EndplateFigureExact s (endplate_answer s (plates_in plates.now)) place result }
+{
+    capi::scantling_endplate(
+        form,
+        material,
+        shell,
+        temperature,
+        pressure,
+        diameter,
+        allowance,
+        plates,
+        place,
+    )
+}
+
+// One figure of a blind flange, in the same way.
+#[unsafe(no_mangle)]
+pub extern "C" fn scantling_blind_flange(
+    material: u32,
+    temperature: u32,
+    pressure: u32,
+    allowance: u32,
+    od: u32,
+    width: u32,
+    rib: u32,
+    rib_width: u32,
+    m: u32,
+    y: u32,
+    circle: u32,
+    bolt: u32,
+    root: u32,
+    count: u32,
+    sa: u32,
+    sb: u32,
+    plates: &[u8],
+    place: u32,
+) -> u64
+    ensures figure { let s =
+        blind_flange_call material temperature pressure allowance od width rib rib_width m y circle bolt root count sa sb in
+        result ≡ figure_at (blind_flange_answer s (plates_in plates.now)) place }
+    ensures exact { let s =
+        blind_flange_call material temperature pressure allowance od width rib rib_width m y circle bolt root count sa sb in
+        BlindFlangeFigureExact s (blind_flange_answer s (plates_in plates.now)) place result }
+{
+    capi::scantling_blind_flange(
+        material,
+        temperature,
+        pressure,
+        allowance,
+        od,
+        width,
+        rib,
+        rib_width,
+        m,
+        y,
+        circle,
+        bolt,
+        root,
+        count,
+        sa,
+        sb,
+        plates,
+        place,
+    )
+}
+
+// One figure of an endplate, by its place, with the plate from the usual stock.
+#[unsafe(no_mangle)]
+pub extern "C" fn scantling_endplate_standard(
+    form: u32,
+    material: u32,
+    shell: u32,
+    temperature: u32,
+    pressure: u32,
+    diameter: u32,
+    allowance: u32,
+    place: u32,
+) -> u64
+    ensures figure { let s = endplate_call form material shell temperature pressure diameter allowance in
+        result ≡ figure_at (endplate_answer s standard_plates) place }
+    ensures exact { let s = endplate_call form material shell temperature pressure diameter allowance in
+        EndplateFigureExact s (endplate_answer s standard_plates) place result }
+{
+    capi::scantling_endplate_standard(
+        form,
+        material,
+        shell,
+        temperature,
+        pressure,
+        diameter,
+        allowance,
+        place,
+    )
+}
+
+// One figure of a blind flange, in the same way.
+#[unsafe(no_mangle)]
+pub extern "C" fn scantling_blind_flange_standard(
+    material: u32,
+    temperature: u32,
+    pressure: u32,
+    allowance: u32,
+    od: u32,
+    width: u32,
+    rib: u32,
+    rib_width: u32,
+    m: u32,
+    y: u32,
+    circle: u32,
+    bolt: u32,
+    root: u32,
+    count: u32,
+    sa: u32,
+    sb: u32,
+    place: u32,
+) -> u64
+    ensures figure { let s =
+        blind_flange_call material temperature pressure allowance od width rib rib_width m y circle bolt root count sa sb in
+        result ≡ figure_at (blind_flange_answer s standard_plates) place }
+    ensures exact { let s =
+        blind_flange_call material temperature pressure allowance od width rib rib_width m y circle bolt root count sa sb in
+        BlindFlangeFigureExact s (blind_flange_answer s standard_plates) place result }
+{
+    capi::scantling_blind_flange_standard(
+        material,
+        temperature,
+        pressure,
+        allowance,
+        od,
+        width,
+        rib,
+        rib_width,
+        m,
+        y,
+        circle,
+        bolt,
+        root,
+        count,
+        sa,
+        sb,
+        place,
+    )
+}
+
+// Answers the sheet in `text`: the length of the report that results. It stands at the front of `out` if that is long
+// enough; otherwise `out` is as it was.
+#[unsafe(no_mangle)]
+pub extern "C" fn scantling_sheet(text: &[u8], out: &mut [u8]) -> usize
+    ensures value { result ≡ length_for text.now }
+    ensures content { out.new ≡ space_of text.now out.old }
+    ensures exact { SheetExact text.now }
+    ensures short { result ≤ longest }
+{
+    capi::scantling_sheet(text, out)
+}
+
+// The least root by itself, for measuring.
+#[unsafe(no_mangle)]
+pub extern "C" fn scantling_least_root(n: u64) -> u64
+    ensures { result ≡ least_root n }
+{
+    capi::scantling_least_root(n)
+}
