@@ -6,6 +6,21 @@ use std::num::wrapping_add_u64;
 // Room for a line's numbers. A line of so many or more has no answer.
 pub(crate) const MOST_NUMBERS: usize = 1024;
 
+// The first byte b of t from index start on and below end, or end where there is none.
+pub(crate) fn find(t: &[u8], start: usize, end: usize, b: u8) -> usize
+    requires ordered { start ≤ end }
+    requires within { end ≤ length t.now }
+    ensures not_before { start ≤ result }
+    ensures not_past { result ≤ end }
+{
+    for i in start..end {
+        if t[i] == b {
+            return i;
+        }
+    }
+    end
+}
+
 // One number more, where there is room.
 fn push(numbers: &mut [u64], count: usize, value: u64) -> usize
     requires { count ≤ length numbers.old }
@@ -43,7 +58,7 @@ pub(crate) fn read_numbers(line: &[u8], numbers: &mut [u64]) -> usize
     let mut count: usize = 0;
     let mut start: usize = 0;
     while start < line.len() {
-        let end = bytes::scan::find(line, start, line.len(), b' ');
+        let end = find(line, start, line.len(), b' ');
         count = push(numbers, count, decimal(&line[start..end]));
         start = end + 1;
     }
@@ -51,7 +66,7 @@ pub(crate) fn read_numbers(line: &[u8], numbers: &mut [u64]) -> usize
 }
 
 fn after_space<'a>(t: &'a [u8]) -> &'a [u8] {
-    let end = bytes::scan::find(t, 0, t.len(), b' ');
+    let end = find(t, 0, t.len(), b' ');
     if end < t.len() {
         return &t[end + 1..];
     }

@@ -1,13 +1,13 @@
 // Writing of a case: words and numbers on standard output.
-use libc::STDOUT_FILENO;
+const STDOUT: i32 = 1;
 
 pub(crate) fn text(s: &[u8]) {
-    io::write_all(STDOUT_FILENO, s);
+    io::write_all(STDOUT, s);
 }
 
 pub(crate) fn number(n: u64) {
     text(b" ");
-    io::print_decimal(STDOUT_FILENO, n);
+    io::print_decimal(STDOUT, n);
 }
 
 // The low 32 bits of a number of a vector.

@@ -5,10 +5,11 @@ ghost use Rattle.std.specs.Prelude.{◌≤◌, length};
 use crate::arithmetic::{design_stress, quotient, root, root_over};
 use crate::blind_flange::{blind_flange, blind_flange_standard};
 use crate::endplate::{endplate, endplate_standard};
-use crate::line::{MOST_NUMBERS, read_numbers, text_of};
+use crate::line::{MOST_NUMBERS, find, read_numbers, text_of};
 use crate::print::text;
 use crate::sheets::sheet;
-use libc::STDIN_FILENO;
+
+const STDIN: i32 = 0;
 
 const ENDPLATE: u64 = 1;
 
@@ -62,7 +63,7 @@ fn work_lines(piece: &[u8], filled: usize) -> usize
 {
     let mut start: usize = 0;
     while start < filled {
-        let end = bytes::scan::find(piece, start, filled, b'\n');
+        let end = find(piece, start, filled, b'\n');
         if end == filled {
             return start;
         }
@@ -77,7 +78,7 @@ fn refill(piece: &mut [u8], kept: usize) -> usize
     requires { kept ≤ length piece.old }
     ensures { result ≤ length piece.old }
 {
-    let read = io::read_full(STDIN_FILENO, &mut piece[kept..]);
+    let read = io::read_full(STDIN, &mut piece[kept..]);
     kept + read
 }
 
@@ -93,7 +94,8 @@ pub(crate) fn run() {
         }
         let start = work_lines(&piece, filled);
         let last = piece;
-        kept = bytes::copy(&last[start..filled], &mut piece);
+        kept = filled - start;
+        piece[..kept].copy_from_slice(&last[start..filled]);
         turns -= 1;
     }
 }
