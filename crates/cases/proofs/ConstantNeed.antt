@@ -3,7 +3,7 @@ use Rattle.std.proofs.Common.{◌≡◌, ℕ, ◌*◌, ◌≤◌, List, [], ◌�
 use Rattle.text.specs.Index.{index_of, index_after}
 use Rattle.tables.specs.DesignStress.{column, design_stress_of}
 use Rattle.root.specs.Least.{◌≥◌, Least, least_most}
-use Rattle.root.specs.Laws.{square_le}
+use Rattle.root.proofs.Laws.{square_le}
 use Rattle.limits.specs.Stress.{endplate_stress}
 use Rattle.rules.specs.Answer.{Accepted}
 use Rattle.limits.specs.declared.EndplateSheet.{EndplateSheet}

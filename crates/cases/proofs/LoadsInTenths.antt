@@ -5,7 +5,7 @@ use borrow.Author.Tests.{eqb-false}
 use Rattle.tables.specs.DesignStress.{column, design_stress_of}
 use Rattle.root.specs.Root.{ceil_div, whole_root_by, least_root, least_root_over}
 use Rattle.plates.specs.Plates.{smallest_serving, NotAbove, Offered}
-use Rattle.plates.specs.Laws.{smallest}
+use Rattle.plates.proofs.Laws.{smallest}
 use Rattle.plates.specs.declared.Choice.{Choice}
 use Rattle.plates.specs.declared.Choice.TheVariants.{Plate, NoPlate}
 use Rattle.limits.specs.Causes.{of_numbers, of_bolting, of_loads, of_plates, first_of, first_cause}

@@ -12,7 +12,8 @@ use Rattle.limits.specs.Stress.{endplate_stress}
 use Rattle.rules.specs.Endplate.{endplate_thickness}
 use Rattle.rules.specs.Figures.{endplate_figures}
 use Rattle.rules.specs.Answer.{endplate_sizing, endplate_answer}
-use Rattle.rules.specs.Laws.{without_plate, endplate_none, flange_none}
+use Rattle.rules.specs.Answer.{without_plate}
+use Rattle.rules.proofs.Laws.{endplate_none, flange_none}
 use Rattle.text.specs.Ascii.{ascii, line_feed}
 use Rattle.text.specs.Line.{value_of, before, after}
 use Rattle.text.specs.Number.{number_of}

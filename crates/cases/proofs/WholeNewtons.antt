@@ -5,8 +5,8 @@ use mathlib.Core.Bool.{and-eq-true_iff}
 use Rattle.tables.specs.DesignStress.{design_stress_of}
 use Rattle.root.specs.Least.{least_most}
 use Rattle.root.specs.Root.{ceil_div, least_root_over}
-use Rattle.root.specs.Laws.{ceil_div-zero, ceil_div-le, ceil_div_least, ceil_div_excess, ceil_div_unique}
-use Rattle.root.specs.Laws.{least_root_over-zero, least_root_over_least}
+use Rattle.root.proofs.Laws.{ceil_div-zero, ceil_div-le, ceil_div_least, ceil_div_excess, ceil_div_unique}
+use Rattle.root.proofs.Laws.{least_root_over-zero, least_root_over_least}
 use Rattle.limits.specs.Causes.{first_cause}
 use Rattle.limits.specs.declared.BlindFlangeSheet.{BlindFlangeSheet}
 use Rattle.rules.specs.Gasket.{reaction_diameter_of}

@@ -1,3 +1,4 @@
--- Laws that the proofs of the functions cite.
+-- Laws: for callers. Folds and NumberBytes: what the proofs of the functions cite.
+pub mod Laws
 mod Folds
 mod NumberBytes

@@ -1,4 +1,3 @@
--- What the contracts of plates cite, and laws for callers.
+-- What the contracts of plates cite.
 pub mod Bytes
 pub mod Plates
-pub mod Laws

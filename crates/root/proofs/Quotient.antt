@@ -5,7 +5,7 @@ use Prim.Native.Nat.{ℕ, ◌+◌, ◌/◌, ◌%◌, ◌≤◌}
 use native.Mathlib.Nat.{div-add-mod, div-add-mod', mod-lt, mul-le-mul_left, le-mul_of_pos_right}
 use native.Mathlib.Omega.{arith}
 use Rattle.root.specs.Root.{ceil_div}
-use Rattle.root.specs.Laws.{ceil_div_unique}
+use Rattle.root.proofs.Laws.{ceil_div_unique}
 
 module _ (n d : ℕ) (some : d ≢ 0) where
   pub exact : n % d ≡ 0 → n / d ≡ ceil_div n d

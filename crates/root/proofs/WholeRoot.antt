@@ -4,7 +4,7 @@ use Prim.Native.Nat.{ℕ, ◌+◌, ◌*◌, ◌/◌, ◌%◌, ◌^◌, ◌≤◌
 use native.Mathlib.Nat.{lt_of_not-le}
 use native.Mathlib.Omega.{arith}
 use Rattle.root.specs.Root.{least_root}
-use Rattle.root.specs.Laws.{least_root_unique, square_le}
+use Rattle.root.proofs.Laws.{least_root_unique, square_le}
 
 -- n has the whole root r, and l is left over
 abbrev pub Whole : ℕ → ℕ → ℕ → Type 0

@@ -1,4 +1,3 @@
--- What the contracts of root cite, and the laws that callers cite.
+-- What the contracts of root cite.
 pub mod Least
 pub mod Root
-pub mod Laws

@@ -1,4 +1,5 @@
--- Ceiling division, the least root and the root over a factor, as they are computed. That each is the least is in Laws.
+-- Ceiling division, the least root and the root over a factor, as they are computed. That each is the least is in
+-- proofs/Laws.
 use Rattle.std.specs.Prelude.{cond, ℕ, zero, suc, ◌+◌, ◌-◌, ◌*◌, ◌/◌, leb, eqb}
 
 -- the answer over a divisor or a factor of 0, where no number need be the least

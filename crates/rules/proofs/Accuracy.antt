@@ -9,7 +9,7 @@ use native.Mathlib.Omega.{arith}
 use borrow.Author.Tests.{leb-true, leb-false}
 use lib.Dec.{leb}
 use Rattle.root.specs.Least.{Least, Reaches}
-use Rattle.root.specs.Laws.{square_le}
+use Rattle.root.proofs.Laws.{square_le}
 use Rattle.rules.specs.Exact.{near_from, Near}
 
 -- the least that a square grows by in a step from 2 below near_from on

@@ -8,7 +8,7 @@ use native.Mathlib.Omega.{arith}
 use borrow.Author.Tests.{ne_eqb}
 use lib.Dec.{eqb}
 use Rattle.plates.specs.Plates.{smallest_serving, plate_of, is_chosen}
-use Rattle.plates.specs.Laws.{chosen-serves}
+use Rattle.plates.proofs.Laws.{chosen-serves}
 use Rattle.plates.specs.declared.Choice.{Choice}
 use Rattle.plates.specs.declared.Choice.TheVariants.{Plate, NoPlate}
 use Rattle.limits.specs.Causes.{Causes, first_of, first_cause, of_numbers, of_bolting, of_loads, of_plates}

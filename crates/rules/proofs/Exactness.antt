@@ -6,13 +6,13 @@ use native.Mathlib.Nat.{mul-le-mul_left, mul-le-mul_right}
 use native.Mathlib.Omega.{arith}
 use Rattle.tables.specs.DesignStress.{design_stress_of}
 use Rattle.root.specs.Least.{Least}
-use Rattle.root.specs.Laws.{square_le}
+use Rattle.root.proofs.Laws.{square_le}
 use Rattle.limits.specs.Stress.{endplate_stress}
 use Rattle.limits.specs.Causes.{first_cause}
 use Rattle.limits.specs.Limits.{endplate_causes}
 use Rattle.limits.specs.declared.EndplateSheet.{EndplateSheet}
 use Rattle.limits.specs.declared.BlindFlangeSheet.{BlindFlangeSheet}
-use Rattle.rules.specs.Endplate.{endplate_thickness_least}
+use Rattle.rules.proofs.EndplateLeast.{endplate_thickness_least}
 use Rattle.rules.specs.Gasket.{reaction_diameter_of}
 use Rattle.rules.specs.Loads.{operating_load_of, seating_load_of, flange_load_of, exact_operating_load_of, exact_seating_load_of}
 use Rattle.rules.specs.Loads.{gasket_of}

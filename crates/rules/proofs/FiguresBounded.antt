@@ -8,12 +8,13 @@ use native.Mathlib.Omega.{arith}
 use borrow.Author.Tests.{leb-true}
 use lib.Dec.{eqb}
 use Rattle.tables.specs.DesignStress.{design_stress_of}
-use Rattle.tables.specs.Laws.{stress_most}
+use Rattle.tables.proofs.Laws.{stress_most}
 use Rattle.root.specs.Least.{least_most}
 use Rattle.limits.specs.Stress.{form_a, endplate_stress}
 use Rattle.rules.specs.Bounds.{most_pressure, most_stress, most_diameter, most_width, most_effective_width, most_rib}
 use Rattle.rules.specs.Bounds.{most_factor, most_bolt_stress, most_gasket_load, most_thickness}
-use Rattle.rules.specs.Endplate.{endplate_thickness, endplate_factor, endplate_thickness_least}
+use Rattle.rules.specs.Endplate.{endplate_thickness, endplate_factor}
+use Rattle.rules.proofs.EndplateLeast.{endplate_thickness_least}
 use Rattle.rules.specs.BlindFlange.{moment, flange_loading, flange_thickness, edge_under, flange_factor}
 use Rattle.rules.specs.BlindFlange.{flange_thickness_least, edge_under_least}
 use Rattle.rules.specs.Gasket.{narrow, wide_width, wide_width_least, effective_width_of, reaction_diameter_of}

@@ -3,7 +3,7 @@ use mathlib.Core.Path.{◌≡◌, refl}
 use Prim.Native.Nat.{ℕ, ◌+◌, ◌-◌, ◌/◌, ◌≤◌}
 use native.Mathlib.Omega.{arith}
 use Rattle.tables.specs.DesignStress.{design_stress_of}
-use Rattle.tables.specs.Laws.{least_stress, stress_least, stress_most, ambient_greatest}
+use Rattle.tables.proofs.Laws.{least_stress, stress_least, stress_most, ambient_greatest}
 use Rattle.limits.specs.declared.BlindFlangeSheet.{BlindFlangeSheet}
 use Rattle.rules.specs.Bounds.{most_stress, most_diameter, most_lever, most_effective_width, most_gasket_load}
 use Rattle.rules.specs.Bounds.{most_load, most_thickness}

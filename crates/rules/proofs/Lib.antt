@@ -1,4 +1,6 @@
--- Laws that the proofs of the functions cite.
+-- Laws: for callers. EndplateLeast: the law of "least with" for an endplate. The others: what the proofs of the functions cite.
+pub mod Laws
+pub mod EndplateLeast
 mod ProductsFit
 mod FiguresBounded
 mod WithinLimits

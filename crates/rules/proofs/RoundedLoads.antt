@@ -2,7 +2,7 @@
 use Prim.Native.Nat.{ℕ, ◌+◌, ◌*◌, ◌^◌, max, ◌≤◌}
 use native.Mathlib.Nat.{mul-le-mul_right}
 use native.Mathlib.Omega.{arith}
-use Rattle.root.specs.Laws.{ceil_div_least, ceil_div_excess}
+use Rattle.root.proofs.Laws.{ceil_div_least, ceil_div_excess}
 use Rattle.rules.specs.Loads.{exact_flange_load, operating_load_of, seating_load_of, flange_load_of, flange_load_of_least}
 
 -- 10⁹·Wm1 is at least V1 and at most 10⁹ above it

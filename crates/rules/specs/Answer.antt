@@ -61,6 +61,13 @@ endplate_answer s plates = from_plates (endplate_sizing s) plates
 unfoldable pub blind_flange_answer : BlindFlangeSheet → List ℕ → Answer
 blind_flange_answer s plates = from_plates (blind_flange_sizing s) plates
 
+-- an answer, chosen from a list, as it is where no plate is listed: what is accepted is refused with 14 and its total; what
+-- is refused keeps its refusal
+abbrev pub without_plate : Answer → Answer
+without_plate (Endplate f plate) = Refused 14 f.total
+without_plate (BlindFlange f plate) = Refused 14 f.total
+without_plate (Refused cause figure) = Refused cause figure
+
 -- ---- an answer in document 01's numbers
 
 -- cause, 0 if none

@@ -5,7 +5,7 @@ use Rattle.std.specs.Prelude.{ℕ, ◌+◌, ◌-◌, ◌*◌, max, ◌≤◌, �
 use Rattle.std.proofs.Common.{mul-le-mul, arith}
 use Rattle.root.specs.Least.{◌≥◌, Least}
 use Rattle.root.specs.Root.{least_root_over}
-use Rattle.root.specs.Laws.{least_root_over_least}
+use Rattle.root.proofs.Laws.{least_root_over_least}
 
 -- 95450·W·(C − G), for a load
 abbrev pub moment : ℕ → ℕ → ℕ → ℕ

@@ -2,12 +2,10 @@
 -- hundredths.
 use Rattle.std.specs.Prelude.{ℕ, ◌*◌, ◌<◌, Bool, true, false, cond, ◌≢◌, eqb}
 use Rattle.std.proofs.Common.{arith}
-use Rattle.root.specs.Least.{◌≥◌, Least}
 use Rattle.root.specs.Root.{least_root_over}
-use Rattle.root.specs.Laws.{least_root_over_least}
-use Rattle.limits.specs.Stress.{form_a, form_c, form_d}
+use Rattle.limits.specs.Stress.{form_d}
 
--- what stands before F-as-T²: 40 for forms a and c, 30 for form d
+-- what stands before F·T²: 40 for forms a and c, 30 for form d
 abbrev pub form_factor : ℕ → ℕ
 form_factor form = cond (eqb form form_d) 30 40
 
@@ -22,24 +20,3 @@ endplate_factor form F h = by_form (eqb form form_d)
     by_form : (b : Bool) → 0 < cond b 30 40 * F
     by_form true = omega arith
     by_form false = omega arith
-
-pub endplate_thickness_least :
-    (form F P d : ℕ) →
-    F ≢ 0 →
-    Least (λ T. form_factor form * F * (T * T) ≥ P * (d * d)) (endplate_thickness form F P d)
-unfolding endplate_thickness
-endplate_thickness_least form F P d h =
-    least_root_over_least (P * (d * d)) (form_factor form * F) (endplate_factor form F h)
-
--- so for forms a, c and d
-pub form_a_least :
-    (F P d : ℕ) → F ≢ 0 → Least (λ T. 40 * F * (T * T) ≥ P * (d * d)) (endplate_thickness form_a F P d)
-form_a_least = endplate_thickness_least form_a
-
-pub form_c_least :
-    (F P d : ℕ) → F ≢ 0 → Least (λ T. 40 * F * (T * T) ≥ P * (d * d)) (endplate_thickness form_c F P d)
-form_c_least = endplate_thickness_least form_c
-
-pub form_d_least :
-    (F P d : ℕ) → F ≢ 0 → Least (λ T. 30 * F * (T * T) ≥ P * (d * d)) (endplate_thickness form_d F P d)
-form_d_least = endplate_thickness_least form_d

@@ -4,7 +4,7 @@ use Rattle.std.specs.Prelude.{ℕ, ◌-◌, ◌*◌, Bool, cond, leb}
 use Rattle.std.proofs.Common.{arith}
 use Rattle.root.specs.Least.{◌≥◌, Least}
 use Rattle.root.specs.Root.{least_root_over}
-use Rattle.root.specs.Laws.{least_root_over_least}
+use Rattle.root.proofs.Laws.{least_root_over_least}
 
 -- n ≤ 126: b_o, half of n, is not above 6.3 mm
 abbrev pub narrow : ℕ → Bool

@@ -1,4 +1,4 @@
--- What the contracts of rules cite, at each "least with" the law that it is that, and laws for callers.
+-- What the contracts of rules cite, and of the flange at each "least with" the law that it is that.
 pub mod Bounds
 pub mod Endplate
 pub mod Gasket
@@ -10,4 +10,3 @@ pub mod Figures
 pub mod Answer
 pub mod Numbers
 pub mod Exact
-pub mod Laws

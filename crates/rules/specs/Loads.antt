@@ -6,7 +6,7 @@ use Rattle.std.specs.Prelude.{ℕ, ◌+◌, ◌*◌, ◌^◌, max, ◌≤◌}
 use Rattle.std.proofs.Common.{arith}
 use Rattle.root.specs.Least.{◌≥◌, Least}
 use Rattle.root.specs.Root.{ceil_div}
-use Rattle.root.specs.Laws.{ceil_div_least}
+use Rattle.root.proofs.Laws.{ceil_div_least}
 use Rattle.limits.specs.declared.BlindFlangeSheet.{BlindFlangeSheet}
 use Rattle.rules.specs.Gasket.{effective_width_of, reaction_diameter_of}
 use Rattle.rules.specs.declared.gasket.Gasket.{Gasket}

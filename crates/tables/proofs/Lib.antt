@@ -1,2 +1,3 @@
--- What the proof of column_at uses.
+-- Laws: for callers. Column: what the proof of column_at uses.
+pub mod Laws
 mod Column

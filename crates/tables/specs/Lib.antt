@@ -1,4 +1,3 @@
--- What the contracts of tables cite, and the laws that callers cite.
+-- What the contracts of tables cite.
 pub mod DesignStress
-pub mod Laws
 pub mod TableRule

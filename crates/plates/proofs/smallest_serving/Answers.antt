@@ -2,7 +2,7 @@
 -- answer. Assumes nothing.
 use Rattle.std.proofs.Common.{arith, refl, sym, ◌-◌, ◌∙◌}
 use Rattle.plates.specs.Plates.{better, smallest_serving}
-use Rattle.plates.specs.Laws.{as_chosen}
+use Rattle.plates.proofs.Laws.{as_chosen}
 use Rattle.plates.proofs.Folds.{fold_one, fold_end}
 use Rattle.plates.proofs.smallest_serving.Goals as goal
 

@@ -2,7 +2,7 @@
 -- the bytes, is the answer. Assumes nothing.
 use Rattle.std.proofs.Common.{arith, refl, sym, ◌-◌, ◌∙◌}
 use Rattle.plates.specs.Plates.{better, smallest_serving, plates_in}
-use Rattle.plates.specs.Laws.{as_chosen}
+use Rattle.plates.proofs.Laws.{as_chosen}
 use Rattle.plates.proofs.NumberBytes.{number_one, number_end}
 use Rattle.plates.proofs.smallest_serving_from_bytes.Goals as goal
 

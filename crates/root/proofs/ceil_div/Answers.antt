@@ -1,6 +1,6 @@
 -- `root::ceil_div` meets its contract. Assumes nothing.
 use Rattle.std.proofs.Common.{arith, sym}
-use Rattle.root.specs.Laws.{ceil_div-zero}
+use Rattle.root.proofs.Laws.{ceil_div-zero}
 use Rattle.root.proofs.Quotient.{exact, inexact, inexact_fits}
 use Rattle.root.proofs.ceil_div.Goals as goal
 

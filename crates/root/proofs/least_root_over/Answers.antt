@@ -1,7 +1,7 @@
 -- `root::least_root_over` meets its contract. Assumes nothing.
 use Rattle.std.proofs.Common.{ap, arith, sym, ◌∙◌}
 use Rattle.root.specs.Root.{least_root}
-use Rattle.root.specs.Laws.{least_root_over-zero, least_root_over_is}
+use Rattle.root.proofs.Laws.{least_root_over-zero, least_root_over_is}
 use Rattle.root.proofs.least_root_over.Goals as goal
 
 pub returns-then-a-eq0 : goal.returns-then-a-eq0

@@ -1,6 +1,6 @@
 -- `tables::design_stress` meets its contract: each way out is a law of the definition. Assumes nothing.
 use Rattle.std.proofs.Common.{sym}
-use Rattle.tables.specs.Laws.{no_material, past_materials, past_columns, entry}
+use Rattle.tables.proofs.Laws.{no_material, past_materials, past_columns, entry}
 use Rattle.tables.proofs.design_stress.Goals as goal
 
 pub returns-then-material-eq0 : goal.returns-then-material-eq0

@@ -1,4 +1,4 @@
--- Laws that callers cite: what an empty list answers. Assumes nothing.
+-- Laws for callers: what an empty list answers. Assumes nothing.
 use Rattle.std.specs.Prelude.{ℕ, List, [], ◌≡◌, refl}
 use Rattle.plates.specs.Plates.{smallest_serving}
 use Rattle.plates.specs.declared.Choice.{Choice}
@@ -6,19 +6,13 @@ use Rattle.plates.specs.declared.Choice.TheVariants.{Plate, NoPlate}
 use Rattle.limits.specs.declared.EndplateSheet.{EndplateSheet}
 use Rattle.limits.specs.declared.BlindFlangeSheet.{BlindFlangeSheet}
 use Rattle.rules.specs.Answer.{total_of, with_plate, from_plates, endplate_sizing, blind_flange_sizing}
-use Rattle.rules.specs.Answer.{endplate_answer, blind_flange_answer}
+use Rattle.rules.specs.Answer.{endplate_answer, blind_flange_answer, without_plate}
 use Rattle.rules.specs.declared.sizing.Sizing.{Sizing}
 use Rattle.rules.specs.declared.sizing.Sizing.TheVariants.{Endplate as Sizing-as-Endplate}
 use Rattle.rules.specs.declared.sizing.Sizing.TheVariants.{BlindFlange as Sizing-as-BlindFlange}
 use Rattle.rules.specs.declared.sizing.Sizing.TheVariants.{Refused as Sizing-as-Refused}
 use Rattle.rules.specs.declared.Answer.{Answer}
 use Rattle.rules.specs.declared.Answer.TheVariants.{Endplate, BlindFlange, Refused}
-
--- what is accepted is refused with 14 and its total; what is refused keeps its refusal
-abbrev pub without_plate : Answer → Answer
-without_plate (Endplate f plate) = Refused 14 f.total
-without_plate (BlindFlange f plate) = Refused 14 f.total
-without_plate (Refused cause figure) = Refused cause figure
 
 without_plate_lem : (sizing : Sizing) (choice : Choice) → with_plate sizing NoPlate ≡ without_plate (with_plate sizing choice)
 without_plate_lem (Sizing-as-Endplate f) (Plate plate) = refl
