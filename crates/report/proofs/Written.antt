@@ -1,12 +1,12 @@
 -- Text written over a part of a space, piece by piece and all at once. Assumes nothing.
-use Prim.Native.Nat.{ℕ, zero, suc, ◌+◌, ◌-◌}
+use Prim.Native.Nat.{ℕ, zero, suc, ◌+◌}
 use mathlib.Core.List.{List, [], ◌∷◌, ◌++◌, append-nil}
 use mathlib.Core.Path.{◌≡◌, refl, sym, ap, ◌∙◌}
-use native.Mathlib.Nat.{le_of_eq, zero-add, add-zero, suc-add}
+use native.Mathlib.Nat.{zero-add, add-zero, suc-add}
 use native.Mathlib.Omega.{arith}
 use borrow.Rule.Slice.PartMut.{put_mid}
-use lib.ListN.{length, take, drop, length-append, length-drop, drop_of_length-le, take-append-drop}
-use lib.Seq.{take_all, take-length, take-nil, drop-nil, drop-drop, take-append_seam}
+use lib.ListN.{length, take, length-append, drop_of_length-le, take-append-drop}
+use lib.Seq.{take_all, take-nil, drop-nil, drop-drop, take-append_seam}
 use Rattle.report.specs.Space.{written_at, Wrote}
 
 -- ---- one piece after another

@@ -11,8 +11,6 @@ use Rattle.rules.specs.declared.sizing.Sizing.{Sizing}
 use Rattle.rules.specs.declared.sizing.Sizing.TheVariants.{Endplate as Sizing-as-Endplate}
 use Rattle.rules.specs.declared.sizing.Sizing.TheVariants.{BlindFlange as Sizing-as-BlindFlange}
 use Rattle.rules.specs.declared.sizing.Sizing.TheVariants.{Refused as Sizing-as-Refused}
-use Rattle.rules.specs.declared.Answer.{Answer}
-use Rattle.rules.specs.declared.Answer.TheVariants.{Endplate, BlindFlange, Refused}
 
 without_plate_lem : (sizing : Sizing) (choice : Choice) → with_plate sizing NoPlate ≡ without_plate (with_plate sizing choice)
 without_plate_lem (Sizing-as-Endplate f) (Plate plate) = refl

@@ -3,13 +3,11 @@ use Prim.Native.Nat.{ℕ, suc, ◌+◌, ◌-◌, ◌≤◌, ◌<◌}
 use mathlib.Core.Bool.{Bool, true, false, and-false}
 use mathlib.Core.List.{List, [], ◌++◌, append-nil}
 use mathlib.Core.Path.{◌≡◌, refl, sym, ap, ◌∙◌}
-use native.Mathlib.Nat.{le_refl}
 use native.Mathlib.Omega.{arith}
 use borrow.Author.Tests.{eq-eqb, ne_eqb}
 use native.Mathlib.Numerals.{add-one}
 use lib.Seq.{drop-cons}
 use lib.ListN.{length, take, drop, get_or, drop_of_length-le, take-append-drop, get_or-eq_default}
-use lib.Seq.{take_all}
 use Rattle.text.specs.Index.{index_of, index_after}
 use Rattle.text.specs.Ascii.{line_feed}
 use Rattle.text.specs.Line.{begins, same, is_line, after, value_of}

@@ -1,5 +1,5 @@
 -- `read_lines` meets its contract. Assumes nothing.
-use Rattle.std.proofs.Common.{Bool, ap, arith, drop, false, length, refl, rules, sym, take, true, ℕ, ◌+◌, ◌-◌, ◌∙◌, ◌≡◌}
+use Rattle.std.proofs.Common.{Bool, ap, arith, drop, false, length, refl, rules, sym, take, true, ℕ, ◌+◌, ◌∙◌, ◌≡◌}
 use borrow.Author.Tests.{not-true, not-false}
 use Rattle.text.specs.Ascii.{line_feed}
 use Rattle.text.specs.Line.{after}

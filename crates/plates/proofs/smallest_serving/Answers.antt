@@ -1,6 +1,6 @@
 -- `smallest_serving` meets its contract. Invariant: the choice so far, bettered by the rest of the list, is the
 -- answer. Assumes nothing.
-use Rattle.std.proofs.Common.{arith, refl, sym, ◌-◌, ◌∙◌}
+use Rattle.std.proofs.Common.{arith, refl, sym, ◌∙◌}
 use Rattle.plates.specs.Plates.{better, smallest_serving}
 use Rattle.plates.proofs.Laws.{as_chosen}
 use Rattle.plates.proofs.Folds.{fold_one, fold_end}

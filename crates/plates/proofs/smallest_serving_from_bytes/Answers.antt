@@ -1,6 +1,6 @@
 -- `smallest_serving_from_bytes` meets its contract. Invariant: the choice so far, bettered by the plates in the rest of
 -- the bytes, is the answer. Assumes nothing.
-use Rattle.std.proofs.Common.{arith, refl, sym, ◌-◌, ◌∙◌}
+use Rattle.std.proofs.Common.{arith, refl, sym, ◌∙◌}
 use Rattle.plates.specs.Plates.{better, smallest_serving, plates_in}
 use Rattle.plates.proofs.Laws.{as_chosen}
 use Rattle.plates.proofs.NumberBytes.{number_one, number_end}

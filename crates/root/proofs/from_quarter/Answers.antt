@@ -1,5 +1,5 @@
 -- `root::from_quarter` meets its contract. Assumes nothing.
-use Rattle.std.proofs.Common.{arith, ℕ, ◌%◌, ◌*◌, ◌+◌, ◌/◌, ◌<◌, ◌^◌, ◌≡◌}
+use Rattle.std.proofs.Common.{arith, ◌%◌, ◌*◌, ◌+◌, ◌/◌, ◌<◌, ◌^◌, ◌≡◌}
 use Rattle.root.proofs.WholeRoot.{below, digit_one, digit_zero, raised}
 use Rattle.root.proofs.from_quarter.Goals as goal
 use Rattle.root.proofs.from_quarter.Goals.{After-with_digit-left}

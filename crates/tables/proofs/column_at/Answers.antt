@@ -1,6 +1,6 @@
 -- `tables::column_at` meets its contract. Invariant: the column is i, and as many places on as the first limit that
 -- is not below the temperature stands among those from i on. Assumes nothing.
-use Rattle.std.proofs.Common.{arith, sym, zero-add, ◌-◌}
+use Rattle.std.proofs.Common.{arith, sym, zero-add}
 use Rattle.tables.specs.DesignStress.{column, column_limits}
 use Rattle.tables.proofs.Column.{here, later, nowhere}
 use Rattle.tables.proofs.column_at.Goals as goal

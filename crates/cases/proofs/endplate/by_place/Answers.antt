@@ -1,5 +1,5 @@
 -- `endplate::by_place` ends. Assumes nothing.
-use Rattle.std.proofs.Common.{arith, ◌-◌}
+use Rattle.std.proofs.Common.{arith}
 use Rattle.cases.proofs.endplate.by_place.Goals as goal
 
 pub loop-place-init : goal.loop-place-init

@@ -1,5 +1,5 @@
 -- `line::decimal` keeps within its digits, and ends. Assumes nothing.
-use Rattle.std.proofs.Common.{arith, ◌-◌}
+use Rattle.std.proofs.Common.{arith}
 use Rattle.cases.proofs.line.decimal.Goals as goal
 
 pub loop-i-init : goal.loop-i-init

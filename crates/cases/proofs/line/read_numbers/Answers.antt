@@ -1,5 +1,5 @@
 -- `line::read_numbers` keeps within its lists, and ends. Assumes nothing.
-use Rattle.std.proofs.Common.{arith, ◌-◌}
+use Rattle.std.proofs.Common.{arith}
 use Rattle.cases.proofs.line.read_numbers.Goals as goal
 
 pub loop-start-init : goal.loop-start-init

@@ -1,5 +1,5 @@
 -- `sheets::shown` keeps within its array, and ends. Assumes nothing.
-use Rattle.std.proofs.Common.{arith, ◌-◌}
+use Rattle.std.proofs.Common.{arith}
 use Rattle.cases.proofs.sheets.shown.Goals as goal
 
 pub loop-i-init : goal.loop-i-init

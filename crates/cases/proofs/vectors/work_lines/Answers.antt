@@ -1,5 +1,5 @@
 -- `vectors::work_lines` keeps within its piece, and ends. Assumes nothing.
-use Rattle.std.proofs.Common.{arith, ◌-◌}
+use Rattle.std.proofs.Common.{arith}
 use Rattle.cases.proofs.vectors.work_lines.Goals as goal
 
 pub loop-start-init : goal.loop-start-init

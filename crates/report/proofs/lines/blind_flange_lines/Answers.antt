@@ -1,6 +1,6 @@
 -- `lines::blind_flange_lines` meets its contract. Assumes nothing.
-use Rattle.std.proofs.Common.{arith, length, ◌≡◌, ◌≤◌}
-use Rattle.report.specs.Report.{report_text, longest}
+use Rattle.std.proofs.Common.{arith}
+use Rattle.report.specs.Report.{report_text}
 use Rattle.report.proofs.Written.{nothing, followed_by}
 use Rattle.report.proofs.lines.blind_flange_lines.Goals as goal
 

@@ -8,7 +8,7 @@ use Rattle.lines.specs.Lines.{Lines, lines_of, lines_held}
 use Rattle.lines.specs.declared.SheetLines.{SheetLines}
 use Rattle.sheet.specs.Sheet.{endplate, blind_flange, read, part_of}
 use Rattle.sheet.proofs.HandedBack.{malformed_read, endplate_read, flange_read, count_fits}
-use Rattle.sheet.proofs.Answered.{Answered, malformed_answered, answered_as}
+use Rattle.sheet.proofs.Answered.{malformed_answered, answered_as}
 use Rattle.sheet.proofs.answers.part_answer.Goals as goal
 use Rattle.sheet.proofs.answers.part_answer.Goals.{After-read_lines-lines}
 

@@ -1,5 +1,5 @@
 -- `plate_list::standard` meets its contract. Assumes nothing.
-use Rattle.std.proofs.Common.{List, [], add-one, ap, get_or, refl, rules, sym, take-suc, take-suc-set, take_all, ℕ, ◌++◌, ◌-◌, ◌∙◌, ◌∷◌}
+use Rattle.std.proofs.Common.{List, [], add-one, ap, get_or, refl, rules, sym, take-suc, take-suc-set, take_all, ℕ, ◌++◌, ◌∙◌, ◌∷◌}
 use mathlib.Core.Option.{some}
 use Rattle.text.specs.Plates.{most_plates, plates_held}
 use Rattle.text.specs.Laws.Padded.{zeros_after}
