@@ -1,7 +1,7 @@
 /*
  * scantling: flat endplates and blind flanges to BS 853-2:1996, clauses 5 and 8, on whole numbers.
  *
- * Link the archive libcapi.a that `rt staticlib capi` writes to target/staticlib/ (x86-64 Linux).
+ * Link the archive libcapi.a that `host/archive` writes to target/staticlib/ (x86-64 Linux).
  * The calls keep no state, allocate nothing and may run in several threads at once.
  *
  * The plate for an end of 500 mm welded into a shell; examples/calls.c packs plates into bytes. A call answers one place,

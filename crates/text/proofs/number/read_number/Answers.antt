@@ -3,7 +3,7 @@ use Rattle.std.proofs.Common.{arith, get_or, rules, sym, ◌*◌, ◌+◌, ◌-�
 use Rattle.text.proofs.Digits.{digit_read, below_digits, above_digits, digits_end, digit_bound}
 use Rattle.text.proofs.Digits.{number_empty, number_long, number_zero_led, number_single, number_led}
 use Rattle.text.proofs.number.read_number.Goals as goal
-use Rattle.text.proofs.number.read_number.Goals.{Else-digit-gt57, then-v-eq48+else-length-gt1, else-v-eq48}
+use Rattle.text.proofs.number.read_number.Goals.{then-v-eq48+else-length-gt1, else-v-eq48}
 
 pub loop-i-init : goal.loop-i-init
 loop-i-init c = (
@@ -25,21 +25,12 @@ returns-then-digit-gt57 c =
     let l = c.loop-i in
     sym (l.invariant.0 ∙ above_digits l.n l.i _ (search rules) (search rules) (search rules))
 
--- n before and after the digit is in bounds
-bound : (c : Else-digit-gt57)
-    → let l = c in
-    let digit = get_or l.args.v.now l.loop-i.i 0 - 48 in
-    (l.loop-i.n * 10 + digit < 10 ^ (l.loop-i.i + 1)) × (l.loop-i.n < 100000)
-bound c =
-    let l = c.loop-i in
-    digit_bound l.n l.i _ l.invariant.2 (omega arith) (omega arith)
-
 pub loop-i-preserved : goal.loop-i-preserved
 loop-i-preserved c =
     let l = c.loop-i in (
       l.invariant.0 ∙ digit_read l.n l.i _ (search rules) (search rules) (search rules),
       search rules,
-      (bound (goal.at.loop-i-preserved c).Else-digit-gt57).0,
+      (digit_bound l.n l.i _ l.invariant.2 (omega arith) (omega arith)).0,
     )
 
 pub returns : goal.returns
@@ -55,7 +46,11 @@ pub returns-then-length-gt1 : goal.returns-then-length-gt1
 returns-then-length-gt1 c = number_zero_led _ (search rules) c.if-v-eq48.true (search rules)
 
 pub overflow_mul-n : goal.overflow_mul-n
-overflow_mul-n c = omega (arith, bound (goal.at.overflow_mul-n c).Else-digit-gt57)
+overflow_mul-n c =
+    let l = c.loop-i in
+    omega (arith, digit_bound l.n l.i (get_or c.args.v.now l.i 0 - 48) l.invariant.2 (omega arith) (omega arith))
 
 pub overflow_add-n : goal.overflow_add-n
-overflow_add-n c = omega (arith, bound (goal.at.overflow_add-n c).Else-digit-gt57)
+overflow_add-n c =
+    let l = c.loop-i in
+    omega (arith, digit_bound l.n l.i (get_or c.args.v.now l.i 0 - 48) l.invariant.2 (omega arith) (omega arith))
