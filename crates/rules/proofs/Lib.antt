@@ -1,6 +1,6 @@
 -- Laws: for callers. EndplateLeast: the law of "least with" for an endplate. The others: what the proofs of the functions cite.
 pub mod Laws
-pub mod EndplateLeast
+mod EndplateLeast
 mod ProductsFit
 mod FiguresBounded
 mod WithinLimits
