@@ -1,5 +1,5 @@
 // A line of vectors: numbers with single spaces between, and in some kinds a text after them.
-ghost use Rattle.std.specs.Prelude.{◌≤◌, length};
+ghost use Rattle.std.specs.Prelude.{ℕ, ◌≡◌, ◌≢◌, ◌<◌, ◌≤◌, length, slice_index};
 
 use std::num::wrapping_add_u64;
 
@@ -12,6 +12,8 @@ pub(crate) fn find(t: &[u8], start: usize, end: usize, b: u8) -> usize
     requires within { end ≤ length t.now }
     ensures not_before { start ≤ result }
     ensures not_past { result ≤ end }
+    ensures first { (k : ℕ) → start ≤ k → k < result → slice_index t.now k ≢ b }
+    ensures found { result < end → slice_index t.now result ≡ b }
 {
     for i in start..end {
         if t[i] == b {
