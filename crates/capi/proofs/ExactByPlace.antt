@@ -6,8 +6,8 @@ use Rattle.rules.specs.Answer.{endplate_answer, blind_flange_answer, Accepted}
 use Rattle.rules.specs.Exact.{EndplateThicknessExact, ThicknessExact, EdgeExact, EndplateExact, BlindFlangeExact}
 use Rattle.limits.specs.declared.EndplateSheet.{EndplateSheet}
 use Rattle.limits.specs.declared.BlindFlangeSheet.{BlindFlangeSheet}
-use Rattle.rules.specs.declared.Answer.{Answer}
-use Rattle.rules.specs.declared.Answer.TheVariants.{Endplate, BlindFlange, Refused}
+use Rattle.rules.specs.Answer.{Answer}
+use Rattle.rules.specs.Answer.{Endplate, BlindFlange, Refused}
 use Rattle.capi.specs.Places.{figure_at, EndplateFigureExact, BlindFlangeFigureExact}
 use Rattle.capi.specs.Places.{endplate_thickness_place, thickness_place, edge_place}
 
@@ -21,18 +21,19 @@ at_its_place s (Endplate f plate) h z = h z
 at_its_place s (BlindFlange f plate) h z = absurd (h z)
 at_its_place s (Refused cause figure) h z = absurd (h z)
 
--- of the sheet s that was made of C's numbers
+-- of the sheet s that was made of C's numbers, and the plates that were listed
 pub endplate_placed :
-    (plates : List ℕ) {made s : EndplateSheet} {answer : Answer} {r place : ℕ} →
+    (plates : List ℕ) {listed : List ℕ} {made s : EndplateSheet} {answer : Answer} {r place : ℕ} →
+    listed ≡ plates →
     made ≡ s →
-    answer ≡ endplate_answer made plates →
+    answer ≡ endplate_answer made listed →
     EndplateExact made answer →
     r ≡ figure_at answer place →
     let due = endplate_answer s plates in
     (r ≡ figure_at due place) × EndplateFigureExact s due place r
-endplate_placed plates {s = s} same q h e =
+endplate_placed plates {s = s} l same q h e =
     let exact = rw same at h in
-    rw (← (rw same at q)) (e, λ z p. rw (e, p) (at_its_place s _ exact z))
+    rw (← (rw (same, l) at q)) (e, λ z p. rw (e, p) (at_its_place s _ exact z))
 
 at_their_places :
     (s : BlindFlangeSheet) (answer : Answer) →
@@ -45,14 +46,15 @@ at_their_places s (BlindFlange f plate) h z = h z
 at_their_places s (Refused cause figure) h z = absurd (h z)
 
 pub flange_placed :
-    (plates : List ℕ) {made s : BlindFlangeSheet} {answer : Answer} {r place : ℕ} →
+    (plates : List ℕ) {listed : List ℕ} {made s : BlindFlangeSheet} {answer : Answer} {r place : ℕ} →
+    listed ≡ plates →
     made ≡ s →
-    answer ≡ blind_flange_answer made plates →
+    answer ≡ blind_flange_answer made listed →
     BlindFlangeExact made answer →
     r ≡ figure_at answer place →
     let due = blind_flange_answer s plates in
     (r ≡ figure_at due place) × BlindFlangeFigureExact s due place r
-flange_placed plates {s = s} same q h e =
+flange_placed plates {s = s} l same q h e =
     let exact = rw same at h in
-    rw (← (rw same at q))
+    rw (← (rw (same, l) at q))
     (e, λ z. (λ p. rw (e, p) (at_their_places s _ exact z).0, λ p. rw (e, p) (at_their_places s _ exact z).1))

@@ -4,7 +4,7 @@ use Rattle.rules.specs.Answer.{cause_of, figure_of, report_of, Accepted}
 use Rattle.rules.specs.Exact.{EndplateThicknessExact, ThicknessExact, EdgeExact}
 use Rattle.limits.specs.declared.EndplateSheet.{EndplateSheet}
 use Rattle.limits.specs.declared.BlindFlangeSheet.{BlindFlangeSheet}
-use Rattle.rules.specs.declared.Answer.{Answer}
+use Rattle.rules.specs.Answer.{Answer}
 
 -- 0 the cause, 1 its figure, from 2 on the report's figures
 abbrev pub by_place : Answer → List ℕ

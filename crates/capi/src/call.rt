@@ -1,4 +1,4 @@
-// The numbers of a call as those of a sheet, in the order of its lines.
+// The numbers of a call as those of a sheet, in the order of its lines: C passes them one by one.
 ghost use Rattle.std.specs.Prelude.{◌≡◌};
 ghost use Rattle.capi.specs.Call.{endplate_call, blind_flange_call};
 

@@ -1,4 +1,5 @@
-// What C calls. include/scantling.h says it for C, with the units and ranges.
+// What C calls. include/scantling.h says it for C, with the units and ranges. Numbers one by one, and a call of its own for
+// the usual stock: C has no struct of ours and no generics.
 #![tactic(auto)]
 
 ghost use Rattle.std.specs.Prelude.{◌≤◌, ◌≡◌};
@@ -16,6 +17,7 @@ mod places;
 
 use call::{blind_flange_call, endplate_call};
 use places::figure_at;
+use plates::{in_bytes, standard_plates};
 
 // One figure of an endplate, by its place. The plates are bytes, four to a plate, lowest first.
 pub fn scantling_endplate(
@@ -43,7 +45,7 @@ pub fn scantling_endplate(
         diameter,
         allowance,
     );
-    figure_at(rules::endplate_from_bytes(sheet, plates), place)
+    figure_at(rules::endplate(sheet, in_bytes(plates)), place)
 }
 
 // One figure of a blind flange, in the same way.
@@ -92,7 +94,7 @@ pub fn scantling_blind_flange(
         sa,
         sb,
     );
-    figure_at(rules::blind_flange_from_bytes(sheet, plates), place)
+    figure_at(rules::blind_flange(sheet, in_bytes(plates)), place)
 }
 
 // One figure of an endplate, by its place, with the plate from the usual stock.
@@ -120,7 +122,7 @@ pub fn scantling_endplate_standard(
         diameter,
         allowance,
     );
-    figure_at(rules::endplate_standard(sheet), place)
+    figure_at(rules::endplate(sheet, &standard_plates()), place)
 }
 
 // One figure of a blind flange, in the same way.
@@ -168,7 +170,7 @@ pub fn scantling_blind_flange_standard(
         sa,
         sb,
     );
-    figure_at(rules::blind_flange_standard(sheet), place)
+    figure_at(rules::blind_flange(sheet, &standard_plates()), place)
 }
 
 // Answers the sheet in `text`: the length of the report that results. It stands at the front of `out` if that is long

@@ -1,21 +1,26 @@
 // An answer's figures by place, for C. Places 0 and 1 of an accepted sheet, its cause and figure, are 0.
-ghost use Rattle.std.specs.Prelude.{◌≡◌};
-ghost use Rattle.rules.specs.declared.Answer.TheVariants.{Endplate, BlindFlange, Refused};
+ghost use Rattle.std.specs.Prelude.{◌≡◌, get_or};
+ghost use Rattle.rules.specs.Answer.{in_numbers, Endplate, BlindFlange};
 ghost use Rattle.capi.specs.Places.{figure_at};
 
-use rules::{Answer, BlindFlangeFigures, EndplateFigures};
+use rules::{Answer, BlindFlangeFigures, EndplateFigures, Refusal, Size};
 
+// The figure at a place of a list; 0 past its end. A plate stands in its list by `as`: with `u64::from` the proof did not close.
+fn at(figures: &[u64], place: u32) -> u64
+    ensures { result ≡ get_or figures.now place 0 }
+{
+    figures.get(place as usize).copied().unwrap_or(0)
+}
+
+#[tactic(auto, unfolding(crate::specs::Places::figure_at))]
 fn endplate_at(f: EndplateFigures, plate: u32, place: u32) -> u64
     ensures { result ≡ figure_at (Endplate f plate) place }
 {
     let figures = [0, 0, f.design_stress, f.thickness, f.total, plate as u64];
-    if place < 6 {
-        figures[place as usize]
-    } else {
-        0
-    }
+    at(&figures, place)
 }
 
+#[tactic(auto, unfolding(crate::specs::Places::figure_at))]
 fn blind_flange_at(f: BlindFlangeFigures, plate: u32, place: u32) -> u64
     ensures { result ≡ figure_at (BlindFlange f plate) place }
 {
@@ -34,32 +39,24 @@ fn blind_flange_at(f: BlindFlangeFigures, plate: u32, place: u32) -> u64
         f.total,
         plate as u64,
     ];
-    if place < 13 {
-        figures[place as usize]
-    } else {
-        0
-    }
+    at(&figures, place)
 }
 
-fn refused_at(cause: u32, figure: u64, place: u32) -> u64
-    ensures { result ≡ figure_at (Refused cause figure) place }
+#[tactic(auto, unfolding(crate::specs::Places::figure_at))]
+fn refused_at(refusal: Refusal, place: u32) -> u64
+    ensures { result ≡ figure_at (in_numbers (Err refusal)) place }
 {
-    if place == 0 {
-        cause as u64
-    } else if place == 1 {
-        figure
-    } else {
-        0
-    }
+    let figures = [u64::from(refusal.cause.number()), refusal.figure];
+    at(&figures, place)
 }
 
 // The figure at a place: 0 the cause, 1 its figure, from 2 on those of the report; 0 at any other.
 pub(crate) fn figure_at(answer: Answer, place: u32) -> u64
-    ensures { result ≡ figure_at answer place }
+    ensures { result ≡ figure_at (in_numbers answer) place }
 {
     match answer {
-        Answer::Endplate { figures, plate } => endplate_at(figures, plate, place),
-        Answer::BlindFlange { figures, plate } => blind_flange_at(figures, plate, place),
-        Answer::Refused { cause, figure } => refused_at(cause, figure, place),
+        Ok(Size::Endplate { figures, plate }) => endplate_at(figures, plate, place),
+        Ok(Size::BlindFlange { figures, plate }) => blind_flange_at(figures, plate, place),
+        Err(refusal) => refused_at(refusal, place),
     }
 }

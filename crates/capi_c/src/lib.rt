@@ -1,4 +1,5 @@
-// The exports of `capi` to C, under its names and with its promises. include/scantling.h says it for C.
+// The exports of `capi` to C, under its names and with its promises. include/scantling.h says it for C. A static library has no
+// callers in Rattle, so `cases` calls `capi`.
 #![tactic(auto)]
 
 ghost use Rattle.std.specs.Prelude.{◌≤◌, ◌≡◌};

@@ -11,15 +11,14 @@ use Rattle.text.specs.Line.{before, after, value_of}
 use Rattle.text.specs.Number.{number_of}
 use Rattle.text.specs.Plates.{numbers_listed, plates_of}
 use Rattle.report.specs.Printed.{printed}
-use Rattle.text.specs.declared.number.Number.{Number}
-use Rattle.text.specs.declared.number.Number.TheVariants.{Value}
+use Rattle.std.specs.Prelude.{Option, Some}
 use Rattle.lines.specs.Fields.{line_of}
 use Rattle.lines.specs.Lines.{plates_line, lines_of}
 use Rattle.sheet.specs.Sheet.{endplate, part_of, sheet_of, answer_of}
 use Rattle.sheet.specs.Outcome.{length_for}
 use Rattle.cases.proofs.EmptyPrograms.{Program, leaves, DemandThree, end_at, end_1080, end_1081, not_refused}
 
-same_value : {m n : ℕ} → Value m ≡ Value n → m ≡ n
+same_value : {m n : ℕ} → Some m ≡ Some n → m ≡ n
 same_value e = cc
 
 -- what the two ends say
@@ -44,13 +43,13 @@ says = (refl, refl)
 module _ (f : Program) (exact : DemandThree f) (space : List ℕ) (room : 43 ≤ length space) where
   -- the number that it prints as an end's need is the least of the end's own inequality
   least : (text : List ℕ) (P : ℕ) → Says text P → Accepted (answer_of text) → length_for text ≤ length space
-      → (n : ℕ) × (printed "need" (leaves f text space) ≡ Value n) × Least (λ T. 40 * 108 * (T * T) ≥ P * (5000 * 5000)) n
+      → (n : ℕ) × (printed "need" (leaves f text space) ≡ Some n) × Least (λ T. 40 * 108 * (T * T) ≥ P * (5000 * 5000)) n
   unfolding end_sheet endplate_stress design_stress_of column
   least text P said accepted fits = rw said at (exact text space accepted fits)
 
   -- a constant need: 40·108·T² ≥ P·5000² has another least T at P 1081 than at P 1080
   pub constant_need :
-      (T : Number) →
+      (T : Option ℕ) →
       printed "need" (leaves f (end_at "pressure=1080") space) ≡ T →
       printed "need" (leaves f (end_at "pressure=1081") space) ≡ T →
       ⊥

@@ -4,14 +4,13 @@ use Rattle.std.proofs.Common.{◌≡◌, ℕ, ◌≤◌, List, length, get_or, t
 use Prim.Native.String.{String}
 use Rattle.text.specs.Index.{index_of, index_after}
 use Rattle.rules.specs.Answer.{Accepted}
-use Rattle.rules.specs.declared.Answer.{Answer}
-use Rattle.rules.specs.declared.Answer.TheVariants.{Endplate, BlindFlange, Refused as Answer-as-Refused}
+use Rattle.rules.specs.Answer.{Answer}
+use Rattle.rules.specs.Answer.{Endplate, BlindFlange, Refused as Answer-as-Refused}
 use Rattle.text.specs.Ascii.{line_feed}
 use Rattle.text.specs.Line.{before, value_of}
 use Rattle.report.specs.Decimal.{number_line}
 use Rattle.report.specs.Printed.{printed_from, printed}
-use Rattle.text.specs.declared.number.Number.{Number}
-use Rattle.text.specs.declared.number.Number.TheVariants.{Value}
+use Rattle.std.specs.Prelude.{Option, Some}
 use Rattle.report.specs.Report.{report_text}
 use Rattle.report.specs.Space.{written_at, laid}
 use Rattle.sheet.specs.Sheet.{sheet_of, answer_of}
@@ -19,8 +18,7 @@ use Rattle.sheet.specs.Outcome.{report_for, length_for, written, outcome_of, spa
 use Rattle.sheet.specs.Outcome.{cause_of, figure_of, length_of}
 use Rattle.sheet.specs.Exact.{ReportExact}
 use Rattle.sheet.specs.Laws.{space_front}
-use Rattle.sheet.specs.declared.Outcome.{Outcome}
-use Rattle.sheet.specs.declared.Outcome.TheVariants.{Report}
+use Rattle.sheet.specs.Outcome.{Outcome, Report}
 use Rattle.cases.proofs.Starred.{text_of, end, sized, blind_sheet, blind_report, row}
 
 -- what a program answers to a text and a space, and what it leaves in the space
@@ -83,15 +81,15 @@ unfolding outcome_of
 printed-outcome = rw printed_report (not_refused (answer_of printed_sheet) 108 (rw printed_report)).1
 
 -- the needs of the two ends, read out of their reports
-need_1080 : printed "need" (report_for (end_at "pressure=1080")) ≡ Value 2500
+need_1080 : printed "need" (report_for (end_at "pressure=1080")) ≡ Some 2500
 unfolding printed_from index_of index_after value_of
 need_1080 = rw end_1080
 
-need_1081 : printed "need" (report_for (end_at "pressure=1081")) ≡ Value 2502
+need_1081 : printed "need" (report_for (end_at "pressure=1081")) ≡ Some 2502
 unfolding printed_from index_of index_after value_of
 need_1081 = rw end_1081
 
-two_needs : {n : Number} → n ≡ Value 2500 → n ≡ Value 2502 → ⊥
+two_needs : {n : Option ℕ} → n ≡ Some 2500 → n ≡ Some 2502 → ⊥
 two_needs e e' = let same : ◌≡◌ {A = ℕ} 2500 2502 = cc in omega (arith, same)
 
 -- ---- the programs
@@ -110,7 +108,7 @@ module _ (f : Program) (promise : Promise f) where
 
   -- printing one thickness always, in any one space that is long enough for the reports of both ends
   pub one_thickness :
-      (T : Number) (space : List ℕ) →
+      (T : Option ℕ) (space : List ℕ) →
       43 ≤ length space →
       ((text : List ℕ) → printed "need" (leaves f text space) ≡ T) →
       ⊥

@@ -1,15 +1,13 @@
 -- The plates line as it was read before R-8, and the sheets that are read the same: every one whose plates line says neither
 -- nothing nor none. Assumes nothing.
 use Rattle.std.proofs.Common.{◌≡◌, ℕ, ◌+◌, Bool, true, false, cond, not, eqb, List, [], ◌∷◌, length, sym, refl, ap, ◌∙◌}
-use mathlib.Core.Option.{Option, none, some}
 use Rattle.text.specs.Index.{index_of, index_after}
 use Rattle.text.specs.Ascii.{ascii, line_feed}
 use Rattle.text.specs.Line.{same, is_line, value_of, before, after}
 use Rattle.text.specs.Number.{number_of}
 use Rattle.text.specs.Plates.{most_plates, numbers_listed, plates_of}
 use Rattle.text.specs.Laws.Begins.{same_equal}
-use Rattle.text.specs.declared.number.Number.{Number}
-use Rattle.text.specs.declared.number.Number.TheVariants.{Value, Malformed}
+use Rattle.std.specs.Prelude.{Option, Some, None}
 use Rattle.report.specs.Report.{report_text}
 use Rattle.lines.specs.Fields.{Field, field_of, fields_of}
 use Rattle.lines.specs.Lines.{Lines, fault, given, ahead, last_line}
@@ -19,7 +17,7 @@ use Rattle.cases.proofs.OtherPlates.{Reading, sheet_by_part, plates_by, lines_by
 
 -- nothing was an empty list, and none was no list
 abbrev pub former_plates : Reading
-former_plates v = cond (eqb (length v) 0) (some []) (numbers_listed most_plates v)
+former_plates v = cond (eqb (length v) 0) (Some []) (numbers_listed most_plates v)
 
 abbrev pub former_sheet_of : List ℕ → Sheet
 former_sheet_of text = sheet_by former_plates text
@@ -51,7 +49,7 @@ part_as_before blind text n = sym (present_part blind text) ∙ agree plates_of 
         (b : Bool) →
         is_line (ascii "plates") t ≡ b →
         let v = value_of (ascii "plates") t in
-        cond b (plates_of v) none ≡ cond b (former_plates v) none
+        cond b (plates_of v) None ≡ cond b (former_plates v) None
     by_line true e = rw ((n e).0, (n e).1)
     by_line false e = refl
 
@@ -71,18 +69,18 @@ read_as_before text n = by_part (is_part (ascii "end") text) (is_part (ascii "bl
 -- ---- a sheet with a list of one plate or more keeps its report
 
 abbrev OneOrMore : Option (List ℕ) → Type 0
-OneOrMore none = ⊥
-OneOrMore (some []) = ⊥
-OneOrMore (some (plate ∷ plates)) = Unit
+OneOrMore None = ⊥
+OneOrMore (Some []) = ⊥
+OneOrMore (Some (plate ∷ plates)) = Unit
 
 abbrev pub Lists : Sheet → Type 0
 Lists (malformed line) = ⊥
-Lists (endplate s plates) = OneOrMore (some plates)
-Lists (blind_flange s plates) = OneOrMore (some plates)
+Lists (endplate s plates) = OneOrMore (Some plates)
+Lists (blind_flange s plates) = OneOrMore (Some plates)
 
 abbrev LinesList : Lines → Type 0
 LinesList (fault k) = ⊥
-LinesList (given v plates) = OneOrMore (some plates)
+LinesList (given v plates) = OneOrMore (Some plates)
 
 -- then its plates line does
 line_lists :
@@ -96,19 +94,19 @@ line_lists line [] t g = by_plates (plates_by former_plates t) (eqb (length (aft
         eqb (length (after line_feed t)) 0 ≡ last →
         LinesList (last_line line o (after line_feed t)) →
         OneOrMore o
-    by_plates none last e g = absurd g
-    by_plates (some plates) true e g = rw e at g
-    by_plates (some plates) false e g = absurd (rw e at g)
+    by_plates None last e g = absurd g
+    by_plates (Some plates) true e g = rw e at g
+    by_plates (Some plates) false e g = absurd (rw e at g)
 line_lists line (f ∷ fs) t g =
     line_lists (line + 1) fs (after line_feed t) (later (field_of f t) (lines_by former_plates (line + 1) fs (after line_feed t)) g)
   where
-    later : (n : Number) (rest : Lines) → LinesList (ahead line n rest) → LinesList rest
-    later (Value x) (given v plates) g = g
-    later (Value x) (fault k) g = absurd g
-    later Malformed rest g = absurd g
+    later : (n : Option ℕ) (rest : Lines) → LinesList (ahead line n rest) → LinesList rest
+    later (Some x) (given v plates) g = g
+    later (Some x) (fault k) g = absurd g
+    later None rest g = absurd g
 
 -- none lists no numbers
-none_unlisted : (v : List ℕ) → same (ascii "none") v ≡ true → numbers_listed most_plates v ≡ none
+none_unlisted : (v : List ℕ) → same (ascii "none") v ≡ true → numbers_listed most_plates v ≡ None
 unfolding numbers_listed number_of before index_of index_after
 none_unlisted v e = rw (same_equal (ascii "none") v e)
 
@@ -121,7 +119,7 @@ value_neither v g = by_value (eqb (length v) 0) refl (same (ascii "none") v) ref
         eqb (length v) 0 ≡ empty →
         (is_none : Bool) →
         same (ascii "none") v ≡ is_none →
-        OneOrMore (cond empty (some []) (numbers_listed most_plates v)) →
+        OneOrMore (cond empty (Some []) (numbers_listed most_plates v)) →
         (eqb (length v) 0 ≡ false) × (same (ascii "none") v ≡ false)
     by_value true e is_none n g = absurd g
     by_value false e true n g = absurd (rw (none_unlisted v n) at g)

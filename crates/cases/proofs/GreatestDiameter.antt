@@ -16,8 +16,8 @@ use Rattle.rules.specs.Figures.{endplate_figures, blind_flange_figures}
 use Rattle.rules.specs.FlangeCauses.{bolts_causes, blind_flange_causes}
 use Rattle.rules.specs.Answer.{from_plates, cause_of, report_of, endplate_unless, endplate_sizing, endplate_answer}
 use Rattle.rules.specs.Answer.{blind_flange_unless, blind_flange_sizing, blind_flange_answer}
-use Rattle.rules.specs.declared.Answer.{Answer}
-use Rattle.rules.specs.declared.Answer.TheVariants.{Refused}
+use Rattle.rules.specs.Answer.{Answer}
+use Rattle.rules.specs.Answer.{Refused}
 use Rattle.report.specs.Report.{report_text}
 use Rattle.sheet.specs.Sheet.{Sheet, malformed, endplate, blind_flange, sheet_of, answered, answer_of}
 use Rattle.sheet.specs.Outcome.{report_for}

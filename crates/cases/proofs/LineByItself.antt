@@ -8,14 +8,13 @@ use Rattle.text.specs.Index.{index_of, index_after}
 use Rattle.text.specs.Ascii.{ascii, equals, line_feed}
 use Rattle.text.specs.Line.{begins, contains, is_line, value_of, before, after}
 use Rattle.text.specs.Laws.Joined.{Lacks, lacks_cons, index_append}
-use Rattle.text.specs.declared.number.Number.{Number}
-use Rattle.text.specs.declared.number.Number.TheVariants.{Value, Malformed}
+use Rattle.std.specs.Prelude.{Option, Some, None}
 use Rattle.lines.specs.Fields.{Field, line_of}
 use Rattle.sheet.specs.Sheet.{is_part}
 
 -- a key without LF
 abbrev pub without_lf : Field → Bool
-without_lf field = eqb (index_of line_feed (ascii field.0)) (length (ascii field.0))
+without_lf field = eqb (index_of line_feed field.0) (length field.0)
 
 -- keys that differ before either ends
 abbrev pub differs : List ℕ → List ℕ → Bool
@@ -42,12 +41,12 @@ begins_other (b ∷ key) (x ∷ other) (y ∷ t) d e =
     by_first false q d later = refl
 
 -- a line that shows a number is a line of its key
-abbrev IsValue : Number → Type 0
-IsValue (Value x) = Unit
-IsValue Malformed = ⊥
+abbrev IsValue : Option ℕ → Type 0
+IsValue (Some x) = Unit
+IsValue None = ⊥
 
 pub is_line_lem :
-    (key : List ℕ) (reader : List ℕ → Number) (t : List ℕ) (x : ℕ) → line_of key reader t ≡ Value x → is_line key t ≡ true
+    (key : List ℕ) (reader : List ℕ → Option ℕ) (t : List ℕ) (x : ℕ) → line_of key reader t ≡ Some x → is_line key t ≡ true
 unfolding line_of
 is_line_lem key reader t x e = by_test (is_line key t) refl
   where
@@ -163,7 +162,7 @@ module _ (u : List ℕ) (l : Lacks line_feed u) where
     value_same = value_line key rest ∙ sym (value_line key other)
 
     pub line_same :
-        (reader : List ℕ → Number) →
+        (reader : List ℕ → Option ℕ) →
         line_of key reader (u ++ line_feed ∷ rest) ≡ line_of key reader (u ++ line_feed ∷ other)
     unfolding line_of
     line_same reader = rw (is_same, value_same)

@@ -6,8 +6,7 @@ use Rattle.tables.specs.DesignStress.{column, design_stress_of}
 use Rattle.root.specs.Root.{ceil_div, whole_root_by, least_root, least_root_over}
 use Rattle.plates.specs.Plates.{smallest_serving, NotAbove, Offered}
 use Rattle.plates.proofs.Laws.{smallest}
-use Rattle.plates.specs.declared.Choice.{Choice}
-use Rattle.plates.specs.declared.Choice.TheVariants.{Plate, NoPlate}
+use Rattle.std.specs.Prelude.{Option, Some, None}
 use Rattle.limits.specs.Causes.{of_numbers, of_bolting, of_loads, of_plates, first_of, first_cause}
 use Rattle.limits.specs.Limits.{flange_limits}
 use Rattle.limits.specs.Laws.{in_turn, not_among}
@@ -21,8 +20,8 @@ use Rattle.rules.specs.FlangeCauses.{bolts_causes, blind_flange_causes}
 use Rattle.rules.specs.Answer.{with_plate, from_plates, Accepted, cause_of, figure_of, report_of, endplate_answer}
 use Rattle.rules.specs.Answer.{blind_flange_unless, blind_flange_sizing, blind_flange_answer}
 use Rattle.rules.specs.declared.BlindFlangeFigures.{BlindFlangeFigures}
-use Rattle.rules.specs.declared.Answer.{Answer}
-use Rattle.rules.specs.declared.Answer.TheVariants.{Endplate, BlindFlange, Refused}
+use Rattle.rules.specs.Answer.{Answer}
+use Rattle.rules.specs.Answer.{Endplate, BlindFlange, Refused}
 use Rattle.report.specs.Report.{report_text}
 use Rattle.sheet.specs.Sheet.{Sheet, malformed, endplate, blind_flange, sheet_of, answered, answer_of}
 use Rattle.sheet.specs.Outcome.{report_for}
@@ -65,32 +64,32 @@ unchanged s cause some none = record {
 
 module _ (s : BlindFlangeSheet) (plates : List ℕ) where
   -- these figures, no cause before 14 applying
-  abbrev chosen : BlindFlangeFigures → Choice → Answer
+  abbrev chosen : BlindFlangeFigures → Option ℕ → Answer
   chosen f choice = with_plate (blind_flange_unless 0 f) choice
 
   -- both with the plate still to choose
   both :
       (f f' : BlindFlangeFigures) →
       Falls f f' →
-      (choice choice' : Choice) →
-      ((plate : ℕ) → choice' ≡ Plate plate → NotAbove choice plate) →
+      (choice choice' : Option ℕ) →
+      ((plate : ℕ) → choice' ≡ Some plate → NotAbove choice plate) →
       NeverRises s (chosen f' choice') (chosen f choice)
-  both f f' falls (Plate plate) (Plate plate') below = record {
+  both f f' falls (Some plate) (Some plate') below = record {
     accepted = λ e. (falls, below plate' refl);
     no_plate = λ e. absurd (omega (arith, e));
     carried = λ e. absurd (omega (arith, e));
     overloaded = λ e. absurd (omega (arith, e));
     refused = λ n. absurd (n refl);
   }
-  both f f' falls NoPlate (Plate plate') below = absurd (below plate' refl)
-  both f f' falls (Plate plate) NoPlate below = record {
+  both f f' falls None (Some plate') below = absurd (below plate' refl)
+  both f f' falls (Some plate) None below = record {
     accepted = λ e. absurd (omega (arith, e));
     no_plate = λ e. inl refl;
     carried = λ e. absurd (omega (arith, e));
     overloaded = λ e. absurd (omega (arith, e));
     refused = λ n n' n''. absurd (n'' refl);
   }
-  both f f' falls NoPlate NoPlate below = record {
+  both f f' falls None None below = record {
     accepted = λ e. absurd (omega (arith, e));
     no_plate = λ e. inr (refl, falls.total);
     carried = λ e. absurd (omega (arith, e));
@@ -103,14 +102,14 @@ module _ (s : BlindFlangeSheet) (plates : List ℕ) where
       (total total' : ℕ) →
       total ≤ total' →
       (plate : ℕ) →
-      smallest_serving total' plates ≡ Plate plate →
+      smallest_serving total' plates ≡ Some plate →
       NotAbove (smallest_serving total plates) plate
   not_above total total' h plate e =
-      let o : Offered total' plates (Plate plate) = rw e at (smallest total' plates).offered in
+      let o : Offered total' plates (Some plate) = rw e at (smallest total' plates).offered in
       (smallest total plates).least plate o.0 (omega (arith, o.1))
 
   -- 13 before, none of 2 to 13 now
-  newly_sufficient : (f : BlindFlangeFigures) → UnderANewton s → (choice : Choice) → NeverRises s (Refused 13 0) (chosen f choice)
+  newly_sufficient : (f : BlindFlangeFigures) → UnderANewton s → (choice : Option ℕ) → NeverRises s (Refused 13 0) (chosen f choice)
   newly_sufficient f short choice = record {
     accepted = λ e. absurd (omega (arith, e));
     no_plate = λ e. absurd (omega (arith, e));
@@ -119,13 +118,13 @@ module _ (s : BlindFlangeSheet) (plates : List ℕ) where
     refused = λ n n'. absurd (n' refl);
   }
     where
-      answered_or_14 : (choice : Choice) → Accepted (chosen f choice) ⊎ (cause_of (chosen f choice) ≡ 14)
-      answered_or_14 (Plate plate) = inl refl
-      answered_or_14 NoPlate = inr refl
+      answered_or_14 : (choice : Option ℕ) → Accepted (chosen f choice) ⊎ (cause_of (chosen f choice) ≡ 14)
+      answered_or_14 (Some plate) = inl refl
+      answered_or_14 None = inr refl
 
-      not_13 : (choice : Choice) → cause_of (chosen f choice) ≢ 13
-      not_13 (Plate plate) e = omega (arith, e)
-      not_13 NoPlate e = omega (arith, e)
+      not_13 : (choice : Option ℕ) → cause_of (chosen f choice) ≢ 13
+      not_13 (Some plate) e = omega (arith, e)
+      not_13 None e = omega (arith, e)
 
   -- ---- the first cause, with bolts that carry and with bolts that do not
 

@@ -1,12 +1,11 @@
 -- Blind sheets in the old form, without the lines rib and ribw (R-4): each is refused by 1 at line 8. Assumes nothing.
 use Rattle.std.proofs.Common.{◌≡◌, ℕ, ◌+◌, Bool, true, false, cond, List, [], ◌∷◌, ◌++◌, length, take, drop, refl, ap, ◌∙◌, arith}
-use Rattle.rules.specs.declared.Answer.{Answer}
-use Rattle.rules.specs.declared.Answer.TheVariants.{Refused}
+use Rattle.rules.specs.Answer.{Answer}
+use Rattle.rules.specs.Answer.{Refused}
 use Rattle.text.specs.Ascii.{ascii, line_feed}
 use Rattle.text.specs.Line.{is_line, after}
 use Rattle.text.specs.Number.{number_of}
-use Rattle.text.specs.declared.number.Number.{Number}
-use Rattle.text.specs.declared.number.Number.TheVariants.{Value, Malformed}
+use Rattle.std.specs.Prelude.{Option, Some, None}
 use Rattle.report.specs.Decimal.{decimal, number_line}
 use Rattle.report.specs.Report.{report_text}
 use Rattle.lines.specs.Fields.{Field, line_of, field_of, endplate_fields, blind_flange_fields}
@@ -71,10 +70,10 @@ Given (fault k) = ⊥
 Given (given v plates) = Unit
 
 -- the first of them, and those after it
-in_order : (line : ℕ) (n : Number) (rest : Lines) → Given (ahead line n rest) → ((x : ℕ) × (n ≡ Value x)) × Given rest
-in_order line (Value x) (given v plates) g = ((x, refl), tt)
-in_order line (Value x) (fault k) g = absurd g
-in_order line Malformed rest g = absurd g
+in_order : (line : ℕ) (n : Option ℕ) (rest : Lines) → Given (ahead line n rest) → ((x : ℕ) × (n ≡ Some x)) × Given rest
+in_order line (Some x) (given v plates) g = ((x, refl), tt)
+in_order line (Some x) (fault k) g = absurd g
+in_order line None rest g = absurd g
 
 -- where other fields follow from one on that these lines do not have, the first of those is at fault
 other_fields :

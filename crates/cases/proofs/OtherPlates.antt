@@ -1,6 +1,5 @@
 -- Sheets that differ in their plates alone: another reading of the plates line, or another plates line. Assumes nothing.
 use Rattle.std.proofs.Common.{◌≡◌, ℕ, ◌+◌, Bool, true, false, cond, ◌&&◌, T, eqb, List, [], ◌∷◌, ◌++◌, length, refl, ap, ◌∙◌, arith, length-append, ne_eqb, eqb-true}
-use mathlib.Core.Option.{Option, none, some}
 use lib.Ieee.Bits.{is_true}
 use Rattle.text.specs.Index.{index_of, index_after}
 use Rattle.tables.specs.TableRule.{every, both}
@@ -8,8 +7,7 @@ use Rattle.text.specs.Ascii.{ascii, line_feed}
 use Rattle.text.specs.Line.{is_line, value_of, after}
 use Rattle.text.specs.Plates.{plates_of}
 use Rattle.text.specs.Laws.Joined.{Lacks}
-use Rattle.text.specs.declared.number.Number.{Number}
-use Rattle.text.specs.declared.number.Number.TheVariants.{Value, Malformed}
+use Rattle.std.specs.Prelude.{Option, Some, None}
 use Rattle.lines.specs.Fields.{Field, line_of, field_of, fields_of}
 use Rattle.lines.specs.Lines.{Lines, fault, given, ahead, plates_line, last_line, lines_of}
 use Rattle.sheet.specs.Sheet.{Sheet, malformed, endplate, blind_flange, read, is_part, part_of, sheet_of}
@@ -28,7 +26,7 @@ sheet_by_part isEnd isBlind endplateOf blindFlangeOf = cond isEnd endplateOf (co
 
 module _ (reading : Reading) where
   abbrev pub plates_by : List ℕ → Option (List ℕ)
-  plates_by t = let key = ascii "plates" in cond (is_line key t) (reading (value_of key t)) none
+  plates_by t = let key = ascii "plates" in cond (is_line key t) (reading (value_of key t)) None
 
   abbrev pub lines_by : ℕ → List Field → List ℕ → Lines
   lines_by line [] t = last_line line (plates_by t) (after line_feed t)
@@ -99,11 +97,11 @@ with_plates plates (endplate s others) = endplate s plates
 with_plates plates (blind_flange s others) = blind_flange s plates
 
 ahead_with :
-    (plates : List ℕ) (line : ℕ) (n : Number) (l : Lines) →
+    (plates : List ℕ) (line : ℕ) (n : Option ℕ) (l : Lines) →
     ahead line n (lines_with plates l) ≡ lines_with plates (ahead line n l)
-ahead_with plates line (Value x) (fault k) = refl
-ahead_with plates line (Value x) (given v others) = refl
-ahead_with plates line Malformed l = refl
+ahead_with plates line (Some x) (fault k) = refl
+ahead_with plates line (Some x) (given v others) = refl
+ahead_with plates line None l = refl
 
 read_with : (plates : List ℕ) (blind : Bool) (l : Lines) → read blind (lines_with plates l) ≡ with_plates plates (read blind l)
 read_with plates true (fault k) = refl
@@ -113,7 +111,7 @@ read_with plates false (given v others) = refl
 
 -- a key without LF that no plates line begins with
 abbrev other_key : Field → Bool
-other_key field = without_lf field && differs (ascii field.0) (ascii "plates=")
+other_key field = without_lf field && differs field.0 (ascii "plates=")
 
 some_text : (us : List (List ℕ)) (value : List ℕ) → eqb (length (sheet_text us value)) 0 ≡ false
 some_text [] value = ne_eqb (length (sheet_text [] value)) 0 (λ e. omega (arith, e))
@@ -126,7 +124,7 @@ module _ (reading : Reading) where
   last_line_lem :
       (value plates : List ℕ) →
       Lacks line_feed value →
-      reading value ≡ some plates →
+      reading value ≡ Some plates →
       (line : ℕ) →
       lines_by reading line [] (sheet_text [] value) ≡ given [] plates
   unfolding index_of index_after
@@ -139,8 +137,8 @@ module _ (reading : Reading) where
       (value other plates others : List ℕ)
       (l : Lacks line_feed value)
       (l' : Lacks line_feed other)
-      (e : reading value ≡ some plates)
-      (e' : reading other ≡ some others) where
+      (e : reading value ≡ Some plates)
+      (e' : reading other ≡ Some others) where
     other_lines :
         (fs : List Field) →
         T (every other_key fs) →
@@ -165,11 +163,11 @@ module _ (reading : Reading) where
         by_plates :
             (o : Option (List ℕ)) →
             last_line line o (sheet_text us value) ≡ lines_with plates (last_line line o (sheet_text us other))
-        by_plates none = refl
-        by_plates (some ps) = rw (some_text us value, some_text us other)
+        by_plates None = refl
+        by_plates (Some ps) = rw (some_text us value, some_text us other)
     other_lines (f ∷ fs) k [] a line =
         let d = (both (without_lf f) _ (both (other_key f) (every other_key fs) k).0).1 in
-        let key = ascii f.0 in
+        let key = f.0 in
         rw (
           begins_other key (ascii "plates=") (sheet_text [] value) d refl,
           begins_other key (ascii "plates=") (sheet_text [] other) d refl,
@@ -180,7 +178,7 @@ module _ (reading : Reading) where
         let t = sheet_text us value in
         let t' = sheet_text us other in
         let n = field_of f (u ++ line_feed ∷ t') in
-        rw (line_same u a.0 (ascii f.0) t t' lf f.1, after_line u a.0 t, after_line u a.0 t')
+        rw (line_same u a.0 f.0 t t' lf f.1, after_line u a.0 t, after_line u a.0 t')
         (ap (ahead line n) (other_lines fs w.1 us a.1 (line + 1))
         ∙ ahead_with plates line n (lines_by reading (line + 1) fs t'))
 

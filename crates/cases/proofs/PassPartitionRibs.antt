@@ -19,8 +19,8 @@ use Rattle.rules.specs.FlangeCauses.{bolts_causes, blind_flange_causes}
 use Rattle.rules.specs.Answer.{from_plates, report_of, endplate_unless, endplate_sizing, endplate_answer}
 use Rattle.rules.specs.Answer.{blind_flange_unless, blind_flange_sizing, blind_flange_answer}
 use Rattle.rules.specs.declared.BlindFlangeFigures.{BlindFlangeFigures}
-use Rattle.rules.specs.declared.Answer.{Answer}
-use Rattle.rules.specs.declared.Answer.TheVariants.{Refused}
+use Rattle.rules.specs.Answer.{Answer}
+use Rattle.rules.specs.Answer.{Refused}
 use Rattle.capi.specs.Call.{blind_flange_call}
 use Rattle.cases.proofs.OtherLoads.{figures_with, causes_with}
 

@@ -2,7 +2,6 @@
 -- what it printed. Assumes nothing.
 use Rattle.std.proofs.Common.{◌≡◌, ℕ, zero, suc, ◌+◌, Bool, true, false, T, eqb, List, [], ◌∷◌, ◌++◌, length, get_or, take, drop, sym, refl, ap, ◌∙◌, arith, length-take-le, get_or-append-add, eqb-true}
 use mathlib.Core.Bool.{and-eq-true_iff}
-use mathlib.Core.Option.{Option, none, some}
 use lib.Ieee.Bits.{is_true}
 use lib.Seq.{get_or_at}
 use Rattle.text.specs.Index.{index_of, index_after}
@@ -12,8 +11,7 @@ use Rattle.rules.specs.Answer.{blind_flange_answer}
 use Rattle.text.specs.Ascii.{ascii, line_feed}
 use Rattle.text.specs.Line.{is_line, value_of, before, after}
 use Rattle.text.specs.Number.{number_of}
-use Rattle.text.specs.declared.number.Number.{Number}
-use Rattle.text.specs.declared.number.Number.TheVariants.{Value, Malformed}
+use Rattle.std.specs.Prelude.{Option, Some, None}
 use Rattle.report.specs.Report.{report_text}
 use Rattle.lines.specs.Fields.{Field, line_of, field_of, blind_flange_fields}
 use Rattle.lines.specs.Lines.{Lines, fault, given, ahead, plates_line, last_line, lines_of}
@@ -39,10 +37,10 @@ PutIn n numbers (fault k) lines = Unit
 PutIn n numbers (given v plates) lines = lines ≡ given (take n v ++ (numbers ++ drop n v)) plates
 
 ahead_put :
-    (numbers : List ℕ) (line x n : ℕ) (rest rest' : Lines) {number : Number} →
-    number ≡ Value x →
+    (numbers : List ℕ) (line x n : ℕ) (rest rest' : Lines) {number : Option ℕ} →
+    number ≡ Some x →
     PutIn n numbers rest rest' →
-    PutIn (suc n) numbers (ahead line (Value x) rest) (ahead line number rest')
+    PutIn (suc n) numbers (ahead line (Some x) rest) (ahead line number rest')
 ahead_put numbers line x n (fault k) rest' e r = tt
 ahead_put numbers line x n (given v plates) rest' e r = rw (e, r)
 
@@ -65,15 +63,15 @@ module _
       (put_in_lem fs q.1 (line + 1) (after line_feed t)))
     where
       by_number :
-          (n : Number) →
+          (n : Option ℕ) →
           field_of f t ≡ n →
           (rest rest' : Lines) →
           PutIn (length fs) numbers rest rest' →
           PutIn
           (suc (length fs)) numbers (ahead line n rest)
           (ahead line (field_of f (before line_feed t ++ line_feed ∷ put_in (length fs) bytes (after line_feed t))) rest')
-      by_number (Value x) e rest rest' r =
-          let key = ascii f.0 in
+      by_number (Some x) e rest rest' r =
+          let key = f.0 in
           let k = eqb-true _ _ (is_true (without_lf f) (both (without_lf f) (every without_lf fs) p).0) in
           let whole = apart t (lf_found key t (is_line_lem key f.1 t x e)) in
           let same =
@@ -81,7 +79,7 @@ module _
           ∙ ap (line_of key f.1) (sym whole)
           ∙ e in
           ahead_put numbers line x (length fs) rest rest' same r
-      by_number Malformed e rest rest' r = tt
+      by_number None e rest rest' r = tt
 
 -- lines are the same whatever number the first has
 any_number : (fs : List Field) (line line' : ℕ) (t : List ℕ) → PutIn 0 [] (lines_of line fs t) (lines_of line' fs t)
@@ -92,17 +90,17 @@ any_number [] line line' t = by_plates (plates_line t) (eqb (length (after line_
         (o : Option (List ℕ)) (last : Bool) →
         eqb (length (after line_feed t)) 0 ≡ last →
         PutIn 0 [] (last_line line o (after line_feed t)) (last_line line' o (after line_feed t))
-    by_plates none last e = tt
-    by_plates (some plates) true e = rw e refl
-    by_plates (some plates) false e = rw e tt
+    by_plates None last e = tt
+    by_plates (Some plates) true e = rw e refl
+    by_plates (Some plates) false e = rw e tt
 any_number (f ∷ fs) line line' t =
     by_number (field_of f t) (lines_of (line + 1) fs (after line_feed t)) _
     (any_number fs (line + 1) (line' + 1) (after line_feed t))
   where
-    by_number : (n : Number) (rest rest' : Lines) → PutIn 0 [] rest rest' → PutIn 0 [] (ahead line n rest) (ahead line' n rest')
-    by_number (Value x) (given v plates) rest' r = rw r
-    by_number (Value x) (fault k) rest' r = tt
-    by_number Malformed rest rest' r = tt
+    by_number : (n : Option ℕ) (rest rest' : Lines) → PutIn 0 [] rest rest' → PutIn 0 [] (ahead line n rest) (ahead line' n rest')
+    by_number (Some x) (given v plates) rest' r = rw r
+    by_number (Some x) (fault k) rest' r = tt
+    by_number None rest rest' r = tt
 
 -- ---- the two lines without a rib
 
@@ -125,7 +123,7 @@ two_zeros line t =
     by_lines :
         (l l' : Lines) →
         PutIn 0 [] l l' →
-        PutIn 0 (0 ∷ 0 ∷ []) l (ahead line (Value 0) (ahead (line + 1) (Value 0) l'))
+        PutIn 0 (0 ∷ 0 ∷ []) l (ahead line (Some 0) (ahead (line + 1) (Some 0) l'))
     by_lines (given v plates) l' r = rw r
     by_lines (fault k) l' r = tt
 
@@ -174,16 +172,16 @@ sized [] line t = by_plates (plates_line t) (eqb (length (after line_feed t)) 0)
         (o : Option (List ℕ)) (last : Bool) →
         eqb (length (after line_feed t)) 0 ≡ last →
         Sized 0 (last_line line o (after line_feed t))
-    by_plates none last e = tt
-    by_plates (some plates) true e = rw e refl
-    by_plates (some plates) false e = rw e tt
+    by_plates None last e = tt
+    by_plates (Some plates) true e = rw e refl
+    by_plates (Some plates) false e = rw e tt
 sized (f ∷ fs) line t =
     by_number (field_of f t) (lines_of (line + 1) fs (after line_feed t)) (sized fs (line + 1) (after line_feed t))
   where
-    by_number : (n : Number) (rest : Lines) → Sized (length fs) rest → Sized (suc (length fs)) (ahead line n rest)
-    by_number (Value x) (given v plates) r = ap suc r
-    by_number (Value x) (fault k) r = tt
-    by_number Malformed rest r = tt
+    by_number : (n : Option ℕ) (rest : Lines) → Sized (length fs) rest → Sized (suc (length fs)) (ahead line n rest)
+    by_number (Some x) (given v plates) r = ap suc r
+    by_number (Some x) (fault k) r = tt
+    by_number None rest r = tt
 
 -- so the sheet that was read has no rib, and its answer is the former one
 no_rib_read : (v : List ℕ) → length v ≡ 14 → let s = blind_flange_sheet (take 6 v ++ 0 ∷ 0 ∷ drop 6 v) in s ≡ ribbed 0 0 s

@@ -1,7 +1,7 @@
 -- An empty plate list (R-8): plates= answers as the usual stock written out, plates=none with the total. Assumes nothing.
 use Rattle.std.proofs.Common.{◌≡◌, ℕ, List, [], ◌∷◌, map, sym, refl, ap, ◌∙◌}
 use Prim.Native.String.{String}
-use mathlib.Core.Option.{some}
+use Rattle.std.specs.Prelude.{Some}
 use Rattle.text.specs.Index.{index_of, index_after}
 use Rattle.tables.specs.DesignStress.{column, design_stress_of}
 use Rattle.root.specs.Root.{ceil_div, whole_root_by, least_root, least_root_over}
@@ -34,7 +34,7 @@ use Rattle.cases.proofs.FormerPlates.{former_plates, former_sheet_of, Lists, kep
 abbrev pub written_plates : List ℕ
 written_plates = ascii "300,400,500,600,800,1000,1200,1500,2000,2500,3000,4000,5000"
 
-written_out : plates_of written_plates ≡ some standard_plates
+written_out : plates_of written_plates ≡ Some standard_plates
 unfolding plates_of standard_plates numbers_listed number_of before after index_of index_after
 written_out = refl
 
@@ -45,8 +45,8 @@ module _ (us : List (List ℕ)) (lines : AreLines us) where
       (value other plates others : List ℕ) →
       Lacks line_feed value →
       Lacks line_feed other →
-      plates_of value ≡ some plates →
-      plates_of other ≡ some others →
+      plates_of value ≡ Some plates →
+      plates_of other ≡ Some others →
       sheet_of (sheet_text us value) ≡ with_plates plates (sheet_of (sheet_text us other))
   other_line value other plates others l l' e e' =
       sym (present (sheet_text us value))
@@ -81,7 +81,7 @@ module _ (us : List (List ℕ)) (lines : AreLines us) where
   pub none-total :
       (value plates : List ℕ) →
       Lacks line_feed value →
-      plates_of value ≡ some plates →
+      plates_of value ≡ Some plates →
       answer_of (sheet_text us (ascii "none")) ≡ without_plate (answer_of (sheet_text us value))
   unfolding answer_of plates_of index_of index_after
   none-total value plates l e =

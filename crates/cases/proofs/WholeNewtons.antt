@@ -16,7 +16,7 @@ use Rattle.rules.specs.BlindFlange.{flange_thickness, edge_under}
 use Rattle.rules.specs.Figures.{ambient, blind_flange_figures}
 use Rattle.rules.specs.Answer.{from_plates, blind_flange_unless}
 use Rattle.rules.specs.declared.BlindFlangeFigures.{BlindFlangeFigures}
-use Rattle.rules.specs.declared.Answer.{Answer}
+use Rattle.rules.specs.Answer.{Answer}
 use Rattle.cases.proofs.OtherLoads.{figures_with, causes_with}
 
 -- ---- the former definitions: loads in N

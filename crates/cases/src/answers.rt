@@ -1,38 +1,50 @@
-// Writing of a calculation's answer: the cause, its figure, and the figures of the report.
-use crate::print::{number, text};
-use rules::{Answer, BlindFlangeFigures, EndplateFigures};
+// Writing of a calculation's answer: the cause, its figure, and the figures of the report; then the figures by place.
+use rules::{Answer, BlindFlangeFigures, EndplateFigures, Size};
+use std::io;
 
-fn endplate(f: EndplateFigures, plate: u32) {
-    text(b" 0 0");
-    number(f.design_stress);
-    number(f.thickness);
-    number(f.total);
-    number(plate as u64);
+fn endplate(rt: &impl Print, figures: EndplateFigures, plate: u32) -> io::Result<()> {
+    let EndplateFigures {
+        design_stress,
+        thickness,
+        total,
+    } = figures;
+    print!(rt; " = 0 0 {design_stress} {thickness} {total} {plate}")
 }
 
-fn blind_flange(f: BlindFlangeFigures, plate: u32) {
-    text(b" 0 0");
-    number(f.design_stress);
-    number(f.ambient_stress);
-    number(f.reaction_diameter);
-    number(f.effective_width);
-    number(f.operating_load);
-    number(f.seating_load);
-    number(f.flange_load);
-    number(f.thickness);
-    number(f.edge_thickness);
-    number(f.total);
-    number(plate as u64);
+fn blind_flange(rt: &impl Print, figures: BlindFlangeFigures, plate: u32) -> io::Result<()> {
+    let BlindFlangeFigures {
+        design_stress,
+        ambient_stress,
+        reaction_diameter,
+        effective_width,
+        operating_load,
+        seating_load,
+        flange_load,
+        thickness,
+        edge_thickness,
+        total,
+    } = figures;
+    print!(rt;
+        " = 0 0 {design_stress} {ambient_stress} {reaction_diameter} {effective_width} {operating_load} {seating_load} \
+         {flange_load} {thickness} {edge_thickness} {total} {plate}"
+    )
 }
 
-pub(crate) fn answered(a: Answer) {
-    text(b" =");
-    match a {
-        Answer::Endplate { figures, plate } => endplate(figures, plate),
-        Answer::BlindFlange { figures, plate } => blind_flange(figures, plate),
-        Answer::Refused { cause, figure } => {
-            number(cause as u64);
-            number(figure);
-        }
+pub(crate) fn answered(rt: &impl Print, answer: Answer) -> io::Result<()> {
+    match answer {
+        Ok(Size::Endplate { figures, plate }) => endplate(rt, figures, plate),
+        Ok(Size::BlindFlange { figures, plate }) => blind_flange(rt, figures, plate),
+        Err(refusal) => print!(rt; " = {} {}", refusal.cause.number(), refusal.figure),
     }
+}
+
+// The figures of the first places, as C gets them.
+pub(crate) fn by_place<F: Fn(u32) -> u64>(rt: &impl Print, places: u32, figure: F) -> io::Result<()>
+    requires { F.IsAlwaysCallable figure }
+{
+    rt.print(" :")?;
+    for place in 0..places {
+        print!(rt; " {}", figure(place))?;
+    }
+    Ok(())
 }

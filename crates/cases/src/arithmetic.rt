@@ -1,34 +1,37 @@
 // Runs the tables and the root arithmetic.
-use crate::print::{low, number, text};
+use crate::words::low;
+use std::io;
 
-fn shown(n: u64) {
-    text(b" =");
-    number(n);
-}
-
-// A material and a temperature.
-pub(crate) fn design_stress(n: &[u64]) {
-    if n.len() == 2 {
-        shown(tables::design_stress(low(n[0]), low(n[1])) as u64);
+// A material and a temperature; 0 where Table 1 has no stress.
+pub(crate) fn design_stress(rt: &impl Print, numbers: &[u64]) -> io::Result<()> {
+    match numbers {
+        [material, temperature] => {
+            let stress = tables::design_stress(low(*material), low(*temperature));
+            print!(rt; " = {}", stress.unwrap_or(0))
+        }
+        _ => Ok(()),
     }
 }
 
 // A number and a divisor.
-pub(crate) fn quotient(n: &[u64]) {
-    if n.len() == 2 {
-        shown(root::ceil_div(n[0], n[1]));
+pub(crate) fn quotient(rt: &impl Print, numbers: &[u64]) -> io::Result<()> {
+    match numbers {
+        [number, divisor] => print!(rt; " = {}", root::ceil_div(*number, *divisor)),
+        _ => Ok(()),
     }
 }
 
-pub(crate) fn root(n: &[u64]) {
-    if n.len() == 1 {
-        shown(root::least_root(n[0]));
+pub(crate) fn root(rt: &impl Print, numbers: &[u64]) -> io::Result<()> {
+    match numbers {
+        [number] => print!(rt; " = {}", root::least_root(*number)),
+        _ => Ok(()),
     }
 }
 
 // A number and a factor.
-pub(crate) fn root_over(n: &[u64]) {
-    if n.len() == 2 {
-        shown(root::least_root_over(n[0], n[1]));
+pub(crate) fn root_over(rt: &impl Print, numbers: &[u64]) -> io::Result<()> {
+    match numbers {
+        [number, factor] => print!(rt; " = {}", root::least_root_over(*number, *factor)),
+        _ => Ok(()),
     }
 }

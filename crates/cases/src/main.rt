@@ -8,11 +8,11 @@ mod arithmetic;
 mod blind_flange;
 mod endplate;
 mod line;
-mod lists;
-mod print;
 mod sheets;
 mod vectors;
+mod words;
 
-fn main() {
-    vectors::run();
+fn main(rt: HostRuntime) {
+    // A read or a write that fails ends the run, as the end of the input does: it is not told, and the status is 0.
+    let _ = vectors::run(&rt, rt.stdin());
 }

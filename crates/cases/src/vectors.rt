@@ -1,101 +1,106 @@
-// Vectors, a line each, read piece by piece. A line is written again with its answer; its first number is its kind, and
-// a kind's function is given the numbers after that. Numbers that do not suit the kind have no answer.
-ghost use Rattle.std.specs.Prelude.{◌≤◌, length};
-
+// Vectors, a line each. A line is written again with its answer; its first number is its kind, and a kind's function is
+// given the numbers after that. Numbers that do not suit the kind have no answer.
 use crate::arithmetic::{design_stress, quotient, root, root_over};
 use crate::blind_flange::{blind_flange, blind_flange_standard};
 use crate::endplate::{endplate, endplate_standard};
-use crate::line::{MOST_NUMBERS, find, read_numbers, text_of};
-use crate::print::text;
+use crate::line::{read_numbers, text_of};
 use crate::sheets::sheet;
+use std::io::{BufRead, BufReader, Read};
+use std::{fmt, io};
 
-const STDIN: i32 = 0;
+// Bytes of a line with its LF. A longer one ends the run.
+const LONGEST_LINE: u64 = 65536;
 
-const ENDPLATE: u64 = 1;
+// A line of so many numbers or more has no answer.
+const TOO_MANY_NUMBERS: usize = 1024;
 
-const BLIND_FLANGE: u64 = 2;
+#[derive(Clone, Copy)]
+enum Kind {
+    Endplate,
+    BlindFlange,
+    Sheet,
+    DesignStress,
+    Quotient,
+    Root,
+    RootOver,
+    EndplateStandard,
+    BlindFlangeStandard,
+}
 
-const SHEET: u64 = 3;
+// The kind of no vector.
+#[derive(Clone, Copy, Debug)]
+struct NoSuchKind;
 
-const DESIGN_STRESS: u64 = 4;
-
-const QUOTIENT: u64 = 5;
-
-const ROOT: u64 = 6;
-
-const ROOT_OVER: u64 = 7;
-
-const ENDPLATE_STANDARD: u64 = 8;
-
-const BLIND_FLANGE_STANDARD: u64 = 9;
-
-fn answer(kind: u64, numbers: &[u64], line: &[u8]) {
-    match kind {
-        ENDPLATE => endplate(numbers),
-        BLIND_FLANGE => blind_flange(numbers),
-        SHEET => sheet(numbers, text_of(line)),
-        DESIGN_STRESS => design_stress(numbers),
-        QUOTIENT => quotient(numbers),
-        ROOT => root(numbers),
-        ROOT_OVER => root_over(numbers),
-        ENDPLATE_STANDARD => endplate_standard(numbers),
-        BLIND_FLANGE_STANDARD => blind_flange_standard(numbers),
-        _ => text(b" no such kind"),
+impl fmt::Display for NoSuchKind {
+    fn fmt<W: fmt::Write>(&self, f: &mut fmt::Formatter<W>) -> fmt::Result {
+        write!(f, "no such kind")
     }
 }
 
-fn work(line: &[u8]) {
-    let mut numbers = [0u64; MOST_NUMBERS];
-    let count = read_numbers(line, &mut numbers);
-    text(line);
-    if count == MOST_NUMBERS {
-        text(b" too many numbers");
-    } else if 0 < count {
-        answer(numbers[0], &numbers[1..count], line);
-    }
-    text(b"\n");
-}
+impl TryFrom<u64> for Kind {
+    type Error = NoSuchKind;
 
-// Works the lines of a piece that is filled so far. What follows the last LF begins at the index answered.
-fn work_lines(piece: &[u8], filled: usize) -> usize
-    requires { filled ≤ length piece.now }
-    ensures { result ≤ filled }
-{
-    let mut start: usize = 0;
-    while start < filled {
-        let end = find(piece, start, filled, b'\n');
-        if end == filled {
-            return start;
+    fn try_from(number: u64) -> Result<Kind, NoSuchKind> {
+        match number {
+            1 => Ok(Kind::Endplate),
+            2 => Ok(Kind::BlindFlange),
+            3 => Ok(Kind::Sheet),
+            4 => Ok(Kind::DesignStress),
+            5 => Ok(Kind::Quotient),
+            6 => Ok(Kind::Root),
+            7 => Ok(Kind::RootOver),
+            8 => Ok(Kind::EndplateStandard),
+            9 => Ok(Kind::BlindFlangeStandard),
+            _ => Err(NoSuchKind),
         }
-        work(&piece[start..end]);
-        start = end + 1;
     }
-    start
 }
 
-// Reads on after what is kept at the front of the piece: how much of it is filled then.
-fn refill(piece: &mut [u8], kept: usize) -> usize
-    requires { kept ≤ length piece.old }
-    ensures { result ≤ length piece.old }
-{
-    let read = io::read_full(STDIN, &mut piece[kept..]);
-    kept + read
-}
-
-// A line that has not ended goes to the front of the next piece. The turns are as many as no input uses up.
-pub(crate) fn run() {
-    let mut piece = io::large_buffer();
-    let mut kept: usize = 0;
-    let mut turns = u64::MAX;
-    while turns > 0 {
-        let filled = refill(&mut piece, kept);
-        if filled == kept {
-            return;
+impl Kind {
+    fn answer(self, rt: &(impl Print + Alloc), numbers: &[u64], line: &[u8]) -> io::Result<()> {
+        match self {
+            Kind::Endplate => endplate(rt, numbers),
+            Kind::BlindFlange => blind_flange(rt, numbers),
+            Kind::Sheet => sheet(rt, numbers, text_of(line)),
+            Kind::DesignStress => design_stress(rt, numbers),
+            Kind::Quotient => quotient(rt, numbers),
+            Kind::Root => root(rt, numbers),
+            Kind::RootOver => root_over(rt, numbers),
+            Kind::EndplateStandard => endplate_standard(rt, numbers),
+            Kind::BlindFlangeStandard => blind_flange_standard(rt, numbers),
         }
-        let start = work_lines(&piece, filled);
-        let last = piece;
-        kept = filled - start;
-        piece[..kept].copy_from_slice(&last[start..filled]);
-        turns -= 1;
     }
+}
+
+fn work(rt: &(impl Print + Alloc), line: &[u8]) -> io::Result<()> {
+    let numbers = read_numbers(rt.alloc(), line)?;
+    rt.write_all(line)?;
+    match numbers.as_slice() {
+        [] => {}
+        many if TOO_MANY_NUMBERS <= many.len() => rt.print(" too many numbers")?,
+        [kind, numbers @ ..] => match Kind::try_from(*kind) {
+            Ok(kind) => kind.answer(rt, numbers, line)?,
+            Err(unknown) => print!(rt; " {unknown}")?,
+        },
+    }
+    rt.print("\n")
+}
+
+// The run ends at the first line with no LF.
+pub(crate) fn run(rt: &(impl Print + Alloc), input: impl Read + Drop) -> io::Result<()> {
+    let mut input = BufReader::new(rt.alloc(), input)?;
+    let mut line = Vec::new(rt.alloc());
+    // More lines than any input has.
+    for _ in 0..u64::MAX {
+        line.clear();
+        input
+            .by_ref()
+            .take(LONGEST_LINE)
+            .read_until(b'\n', &mut line)?;
+        let Some(line) = line.strip_suffix(b"\n") else {
+            break;
+        };
+        work(rt, line)?;
+    }
+    Ok(())
 }

@@ -2,7 +2,7 @@
 -- the numbers to rise. Assumes nothing.
 use Rattle.std.specs.Prelude.{◌≡◌, ◌≢◌, Bool, not, ◌||◌, ◌&&◌, ℕ, zero, suc, T, get_or}
 use Rattle.std.proofs.Math.Path.{refl}
-use Rattle.std.proofs.Common.{sym, ap, subst, ◌∙◌, eqb-true, T_not}
+use Rattle.std.proofs.Common.{arith, sym, ap, subst, ◌∙◌, eqb-true, T_not}
 use Rattle.std.proofs.Math.Bool.{true, false, cond, or_assoc, or-false}
 use mathlib.Mathlib.Data.Bool.Basic.{or-eq-false-eq-eq-false-and-eq-false}
 use mathlib.Core.List.Memᴰ
@@ -11,11 +11,22 @@ use Rattle.std.proofs.lemmas.Bool.{eqb-false}
 use Rattle.std.proofs.Math.Dec.{eqb}
 use Rattle.std.specs.Float.Ieee.Bits.{is_false}
 use Rattle.tables.specs.TableRule.{every, both}
+use Rattle.limits.specs.declared.cause.Cause.{Cause}
+use Rattle.limits.specs.Cause.{number_of}
 use Rattle.limits.specs.Causes.{Tests, any, Causes, tests_of, first_of, checking_order, first_cause}
 
 -- a cause's number is not 0
 abbrev pub numbered : ℕ → Bool
 numbered number = not (eqb number 0)
+
+-- ---- a cause and its number
+
+-- no cause has the number that stands for none, and no two causes have one number
+pub number_not_zero : (cause : Cause) → number_of cause ≢ 0
+number_not_zero cause e = grind arith
+
+pub named_by_number : (c d : Cause) → number_of c ≡ number_of d → c ≡ d
+named_by_number c d e = grind arith
 
 -- ---- tests one after another
 

@@ -1,10 +1,12 @@
-// The numbers of the two sheets, and the limits that they keep to: causes 2 to 12 and 17 of a refusal, in checking order.
+// The numbers of the two sheets, and the limits that they keep to: causes of a refusal.
 #![tactic(auto)]
 
+mod cause;
 mod causes;
 mod stress;
 
-pub use causes::{bolting_limits, endplate_cause, flange_limits};
+pub use cause::Cause;
+pub use causes::{bolting_limits, endplate_limits, flange_limits};
 pub use stress::endplate_stress;
 
 // The numbers of an endplate's sheet, in the order of its lines.

@@ -1,14 +1,11 @@
 -- The lines of a sheet after the first, each what must stand there, or the number of the first that is not.
-use Rattle.std.specs.Prelude.{ℕ, ◌+◌, true, false, cond, List, [], ◌∷◌, eqb, length}
-use Rattle.std.proofs.Math.Option.{Option, none, some}
+use Rattle.std.specs.Prelude.{ℕ, ◌+◌, cond, List, [], ◌∷◌, eqb, length, Option, Some, None, Result, Ok, Err}
 use Rattle.text.specs.Ascii.{ascii, line_feed}
 use Rattle.text.specs.Line.{is_line, value_of, after}
-use Rattle.text.specs.Padded.{padded}
-use Rattle.text.specs.Plates.{most_plates, plates_of}
-use Rattle.text.specs.declared.number.Number.{Number}
-use Rattle.text.specs.declared.number.Number.TheVariants.{Value, Malformed}
-use Rattle.lines.specs.Fields.{Field, field_of, most_fields}
+use Rattle.text.specs.Plates.{plates_of}
+use Rattle.lines.specs.Fields.{Field, field_of}
 use Rattle.lines.specs.declared.SheetLines.{SheetLines}
+use Rattle.lines.specs.declared.Malformed.{Malformed}
 
 pub data Lines : Type 0 where
   -- the number of the first line that is absent, has a wrong key or value text or no LF, or follows the last
@@ -17,19 +14,19 @@ pub data Lines : Type 0 where
   given : List ℕ → List ℕ → Lines
 
 -- a line's number before those of the lines after it
-abbrev pub ahead : ℕ → Number → Lines → Lines
-ahead line (Value x) (given xs plates) = given (x ∷ xs) plates
-ahead line (Value x) (fault k) = fault k
-ahead line Malformed rest = fault line
+abbrev pub ahead : ℕ → Option ℕ → Lines → Lines
+ahead line (Some x) (given xs plates) = given (x ∷ xs) plates
+ahead line (Some x) (fault k) = fault k
+ahead line None rest = fault line
 
 -- the plates that the line which t begins with lists
 unfoldable pub plates_line : List ℕ → Option (List ℕ)
-plates_line t = let key = ascii "plates" in cond (is_line key t) (plates_of (value_of key t)) none
+plates_line t = let key = ascii "plates" in cond (is_line key t) (plates_of (value_of key t)) None
 
 -- plates, and no byte after their line
 abbrev pub last_line : ℕ → Option (List ℕ) → List ℕ → Lines
-last_line line none rest = fault line
-last_line line (some plates) rest = cond (eqb (length rest) 0) (given [] plates) (fault (line + 1))
+last_line line None rest = fault line
+last_line line (Some plates) rest = cond (eqb (length rest) 0) (given [] plates) (fault (line + 1))
 
 -- t is the lines of the fields and that of the plates; the first of them has the number `line`
 unfoldable pub lines_of : ℕ → List Field → List ℕ → Lines
@@ -38,15 +35,7 @@ lines_of line (field ∷ fields) t =
     let rest = lines_of (line + 1) fields (after line_feed t) in
     ahead line (field_of field t) rest
 
--- how they are handed back
-abbrev pub lines_held : Lines → SheetLines
-lines_held (fault k) =
-    record { ok = false; fault = k; values = padded most_fields []; count = 0; plates = padded most_plates [] }
-lines_held (given xs plates) =
-    record {
-      ok = true;
-      fault = 0;
-      values = padded most_fields xs;
-      count = length plates;
-      plates = padded most_plates plates;
-    }
+-- those that were read
+abbrev pub lines_read : {N : ℕ} → Result (SheetLines N) Malformed → Lines
+lines_read (Ok lines) = given lines.values lines.plates.items
+lines_read (Err malformed) = fault malformed.line

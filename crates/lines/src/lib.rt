@@ -3,82 +3,55 @@
 
 pub mod blind_flange;
 pub mod endplate;
-mod fields;
+mod field;
 
-ghost use Rattle.std.specs.Prelude.{◌≡◌};
-ghost use Rattle.lines.specs.Fields.{fields_of};
-ghost use Rattle.text.specs.Plates.{plates_held};
-ghost use Rattle.lines.specs.Lines.{plates_line, lines_of, lines_held, Lines};
+ghost use Rattle.std.specs.Prelude.{◌≡◌, map};
+ghost use Rattle.text.specs.Plates.{plates_read};
+ghost use Rattle.lines.specs.Fields.{field_meant};
+ghost use Rattle.lines.specs.Lines.{plates_line, lines_of, lines_read};
 
-use fields::{field, field_count};
-use text::{Number, Plates, is_line, malformed_plates, next_line, read_plates, value};
+use arrayvec::ArrayVec;
+pub use field::Field;
+use text::{MOST_PLATES, line_value, next_line, read_plates};
 
-// Room for the numbers of either sheet.
-pub const MOST_FIELDS: usize = blind_flange::FIELDS;
-
-// The numbers of the fields, in order, and as many plates as `count` says; or the number of the first line at fault.
-#[derive(Clone, Copy)]
-pub struct SheetLines {
-    pub ok: bool,
-    pub fault: u32,
-    pub values: [u32; MOST_FIELDS],
-    pub count: usize,
-    pub plates: [u32; 32],
+// The numbers of the fields, in order, and the plates.
+#[derive(Drop)]
+pub struct SheetLines<const N: usize> {
+    pub values: [u32; N],
+    pub plates: ArrayVec<u32, MOST_PLATES>,
 }
 
-fn faulty(line: u32) -> SheetLines
-    ensures { result ≡ lines_held (Lines.fault line) }
-{
-    SheetLines {
-        ok: false,
-        fault: line,
-        values: [0; MOST_FIELDS],
-        count: 0,
-        plates: [0; 32],
-    }
+// The number of the first line that is absent, has a wrong key or value text or no LF, or follows the last.
+#[derive(Clone, Copy, Debug, PartialEq, Eq)]
+pub struct Malformed {
+    pub line: usize,
 }
 
 // The plates that the line which t begins with lists.
-fn plates_line(t: &[u8]) -> Plates
-    ensures { result ≡ plates_held (plates_line t.now) }
+#[tactic(auto, unfolding(crate::specs::Lines::plates_line))]
+fn plates_line(t: &[u8]) -> Option<ArrayVec<u32, MOST_PLATES>>
+    ensures { plates_read result ≡ plates_line t.now }
 {
-    if is_line(t, b"plates") {
-        return read_plates(value(t, b"plates"));
-    }
-    malformed_plates()
+    read_plates(line_value(t, b"plates")?)
 }
 
-// The lines of a blind flange's sheet, or else of an endplate's, from the second on.
-pub fn read_lines(text: &[u8], blind: bool) -> SheetLines
-    ensures { result ≡ lines_held (lines_of 2 (fields_of blind) text.now) }
+// The lines of a sheet with these fields, from the second on.
+#[tactic(auto, using(crate::proofs::LineByLine::line_fault, crate::proofs::LineByLine::lines_last))]
+pub fn read_lines<const N: usize>(
+    text: &[u8],
+    fields: &[Field; N],
+) -> Result<SheetLines<N>, Malformed>
+    ensures { lines_read result ≡ lines_of 2 (map field_meant fields.now) text.now }
 {
-    let fields = field_count(blind);
-    let mut values = [0u32; MOST_FIELDS];
+    let mut values = [0; N];
     let mut t = text;
-    let mut i = 0;
-    while i < fields {
-        let number = field(t, blind, i);
-        let Number::Value(x) = number else {
-            return faulty(i as u32 + 2);
-        };
-        values[i] = x;
-        let rest = next_line(t);
-        t = rest;
-        i += 1;
+    for (i, field) in fields.iter().enumerate() {
+        values[i] = field.read(t).ok_or(Malformed { line: i + 2 })?;
+        t = next_line(t);
     }
-    let plates = plates_line(t);
-    if !plates.ok {
-        return faulty(fields as u32 + 2);
+    let plates = plates_line(t).ok_or(Malformed { line: N + 2 })?;
+    if !next_line(t).is_empty() {
+        return Err(Malformed { line: N + 3 });
     }
-    if next_line(t).len() != 0 {
-        return faulty(fields as u32 + 3);
-    }
-    let list = plates.list;
-    SheetLines {
-        ok: true,
-        fault: 0,
-        values,
-        count: plates.count,
-        plates: list,
-    }
+    Ok(SheetLines { values, plates })
 }

@@ -1,6 +1,6 @@
 -- The plate rule, for callers: the choice is the smallest listed plate that serves, and there is one exactly where one
 -- serves. Assumes nothing.
-use Rattle.std.specs.Prelude.{◌≡◌, refl, Bool, true, false, ◌&&◌, ◌||◌, cond, ℕ, ◌≤◌, ltb}
+use Rattle.std.specs.Prelude.{◌≡◌, refl, Bool, true, false, ◌&&◌, ◌||◌, cond, ℕ, ◌≤◌, ltb, Option, Some, None}
 use Rattle.std.proofs.Math.Path.{sym}
 use Rattle.std.proofs.Common.{ap, subst, ◌∙◌, le_refl, arith, leb-true, ltb-true, ltb-false, le-leb}
 use Rattle.std.proofs.Math.Bool.{and-eq-true_iff}
@@ -8,16 +8,14 @@ use mathlib.Core.List.Memᴰ
 use mathlib.Core.List.{List, [], ◌∷◌, foldl, map}
 use Rattle.plates.specs.Plates.{serves, any_serves, smaller, better, smallest_serving, is_chosen}
 use Rattle.plates.specs.Plates.{Listed, NotAbove, Offered, Smallest}
-use Rattle.plates.specs.declared.Choice.{Choice}
-use Rattle.plates.specs.declared.Choice.TheVariants.{Plate, NoPlate}
 
 module _ (total : ℕ) where
   -- a choice, with one plate more, is not above what it was not above
-  keeps : (c : Choice) (q x : ℕ) → NotAbove c x → NotAbove (better total c q) x
-  keeps NoPlate q x h = absurd h
-  keeps (Plate p) q x h = by_test (serves total q && ltb q p) refl
+  keeps : (c : Option ℕ) (q x : ℕ) → NotAbove c x → NotAbove (better total c q) x
+  keeps None q x h = absurd h
+  keeps (Some p) q x h = by_test (serves total q && ltb q p) refl
     where
-      by_test : (b : Bool) → (serves total q && ltb q p) ≡ b → NotAbove (cond b (Plate q) (Plate p)) x
+      by_test : (b : Bool) → (serves total q && ltb q p) ≡ b → NotAbove (cond b (Some q) (Some p)) x
       by_test true e = omega (arith, ltb-true q p ((and-eq-true_iff (serves total q) (ltb q p)).0 e).1)
       by_test false e = h
 
@@ -25,19 +23,19 @@ module _ (total : ℕ) where
   served q h = le-leb total _ (omega arith)
 
   -- nor above the plate, if that serves
-  covers : (c : Choice) (q : ℕ) → total ≤ q → NotAbove (better total c q) q
-  covers NoPlate q h = rw (served q h) (le_refl q)
-  covers (Plate p) q h = rw (served q h) (by_test (ltb q p) refl)
+  covers : (c : Option ℕ) (q : ℕ) → total ≤ q → NotAbove (better total c q) q
+  covers None q h = rw (served q h) (le_refl q)
+  covers (Some p) q h = rw (served q h) (by_test (ltb q p) refl)
     where
-      by_test : (b : Bool) → ltb q p ≡ b → NotAbove (cond b (Plate q) (Plate p)) q
+      by_test : (b : Bool) → ltb q p ≡ b → NotAbove (cond b (Some q) (Some p)) q
       by_test true e = le_refl q
       by_test false e = ltb-false q p e
 
-  run_keeps : (ps : List ℕ) (c : Choice) (x : ℕ) → NotAbove c x → NotAbove (foldl (better total) c ps) x
+  run_keeps : (ps : List ℕ) (c : Option ℕ) (x : ℕ) → NotAbove c x → NotAbove (foldl (better total) c ps) x
   run_keeps [] c x h = h
   run_keeps (q ∷ ps) c x h = run_keeps ps (better total c q) x (keeps c q x h)
 
-  run_covers : (ps : List ℕ) (c : Choice) (x : ℕ) → Listed x ps → total ≤ x → NotAbove (foldl (better total) c ps) x
+  run_covers : (ps : List ℕ) (c : Option ℕ) (x : ℕ) → Listed x ps → total ≤ x → NotAbove (foldl (better total) c ps) x
   run_covers [] c x m h = absurd (Memᴰ.not-nil m)
   run_covers (q ∷ ps) c x (Memᴰ.head e) h =
       run_keeps ps (better total c q) x (subst (λ (y : ℕ). NotAbove (better total c y) x) e (covers c x h))
@@ -45,15 +43,15 @@ module _ (total : ℕ) where
 
   -- what is chosen is listed, and serves
   offers :
-      (all : List ℕ) (c : Choice) (q : ℕ) → Offered total all c → Listed q all → Offered total all (better total c q)
+      (all : List ℕ) (c : Option ℕ) (q : ℕ) → Offered total all c → Listed q all → Offered total all (better total c q)
   offers all c q o m = by_test (serves total q && smaller q c) refl
     where
-      by_test : (b : Bool) → (serves total q && smaller q c) ≡ b → Offered total all (cond b (Plate q) c)
+      by_test : (b : Bool) → (serves total q && smaller q c) ≡ b → Offered total all (cond b (Some q) c)
       by_test true e = (m, leb-true total q ((and-eq-true_iff (serves total q) (smaller q c)).0 e).0)
       by_test false e = o
 
   run_offers :
-      (all ps : List ℕ) (c : Choice) →
+      (all ps : List ℕ) (c : Option ℕ) →
       ((q : ℕ) → Listed q ps → Listed q all) →
       Offered total all c →
       Offered total all (foldl (better total) c ps)
@@ -65,33 +63,33 @@ module _ (total : ℕ) where
   pub smallest : (plates : List ℕ) → Smallest total plates (smallest_serving total plates)
   unfolding smallest_serving
   smallest plates = record {
-    offered = run_offers plates plates NoPlate (λ q m. m) tt;
-    least = λ plate m h. run_covers plates NoPlate plate m h;
+    offered = run_offers plates plates None (λ q m. m) tt;
+    least = λ plate m h. run_covers plates None plate m h;
   }
 
   -- so of whatever is the definition's choice
   pub as_chosen :
-      (plates : List ℕ) {choice : Choice} →
+      (plates : List ℕ) {choice : Option ℕ} →
       choice ≡ smallest_serving total plates →
       (choice ≡ smallest_serving total plates) × Smallest total plates choice
   as_chosen plates e = (e, rw e (smallest plates))
 
   -- ---- chosen exactly where one serves
 
-  one_more : (c : Choice) (plate : ℕ) → is_chosen (better total c plate) ≡ (is_chosen c || serves total plate)
-  one_more (Plate p) plate = by_test (serves total plate && smaller plate (Plate p))
+  one_more : (c : Option ℕ) (plate : ℕ) → is_chosen (better total c plate) ≡ (is_chosen c || serves total plate)
+  one_more (Some p) plate = by_test (serves total plate && smaller plate (Some p))
     where
-      by_test : (b : Bool) → is_chosen (cond b (Plate plate) (Plate p)) ≡ true
+      by_test : (b : Bool) → is_chosen (cond b (Some plate) (Some p)) ≡ true
       by_test true = refl
       by_test false = refl
-  one_more NoPlate plate = by_test (serves total plate)
+  one_more None plate = by_test (serves total plate)
     where
-      by_test : (b : Bool) → is_chosen (cond (b && true) (Plate plate) NoPlate) ≡ b
+      by_test : (b : Bool) → is_chosen (cond (b && true) (Some plate) None) ≡ b
       by_test true = refl
       by_test false = refl
 
   run_chooses :
-      (ps : List ℕ) (c : Choice) →
+      (ps : List ℕ) (c : Option ℕ) →
       is_chosen (foldl (better total) c ps) ≡ foldl ◌||◌ (is_chosen c) (map (serves total) ps)
   run_chooses [] c = refl
   run_chooses (q ∷ ps) c =
@@ -100,4 +98,4 @@ module _ (total : ℕ) where
 
   pub chosen-serves : (plates : List ℕ) → any_serves total plates ≡ is_chosen (smallest_serving total plates)
   unfolding smallest_serving
-  chosen-serves plates = sym (run_chooses plates NoPlate)
+  chosen-serves plates = sym (run_chooses plates None)

@@ -1,4 +1,3 @@
--- Laws: for callers. Folds and NumberBytes: what the proofs of the functions cite.
+-- Laws: for callers. InBytes: what the proof of `in_bytes` cites.
 pub mod Laws
-mod Folds
-mod NumberBytes
+mod InBytes

@@ -1,20 +1,22 @@
-// Numbers in C's bytes: four to a number, lowest first.
-ghost use Rattle.std.specs.Prelude.{◌+◌, ◌≤◌, ◌≡◌, length};
-ghost use Rattle.plates.specs.Bytes.{number_at};
+// Plates in C's bytes: four to a plate, lowest first.
+ghost use Rattle.std.specs.Prelude.{◌≡◌};
+ghost use mathlib.Core.List.{map};
+ghost use Rattle.plates.specs.Bytes.{number_in};
+ghost use Rattle.plates.specs.Plates.{plates_in};
 
-// A byte, which is at most 255.
-fn wide(byte: u8) -> u32
-    ensures value { result ≡ byte }
-    ensures upper_bound { result ≤ 255 }
-{
-    byte as u32
+use crate::Plate;
+
+impl Plate for [u8; 4] {
+    ghost thickness_of = { number_in };
+
+    fn thickness(self) -> u32 {
+        u32::from_le_bytes(self)
+    }
 }
 
-// The number in the four bytes from index at on.
-pub(crate) fn number_at(bytes: &[u8], at: usize) -> u32
-    requires { at + 4 ≤ length bytes.now }
-    ensures { result ≡ number_at bytes.now at }
+// The plates of C's list; a remainder of fewer than four bytes is not read.
+pub fn in_bytes(bytes: &[u8]) -> &[[u8; 4]]
+    ensures { map number_in result.now ≡ plates_in bytes.now }
 {
-    let low = wide(bytes[at]) + 256 * wide(bytes[at + 1]);
-    low + 65536 * wide(bytes[at + 2]) + 16777216 * wide(bytes[at + 3])
+    bytes.as_chunks().0
 }

@@ -1,63 +1,51 @@
 // What a plate is, and the choice of one from a list. A plate is its thickness, in hundredths of a mm.
 #![tactic(auto)]
 
-ghost use Rattle.std.specs.Prelude.{◌≡◌};
-ghost use Rattle.plates.specs.Plates.{better, smallest_serving, plates_in, standard_plates, Smallest};
+ghost use Rattle.std.specs.Prelude.{◌≡◌, ℕ};
+ghost use mathlib.Core.List.{map};
+ghost use Rattle.plates.specs.Plates.{better, smallest_serving, standard_plates, Smallest};
 
 mod bytes;
 
-use bytes::number_at;
+pub use bytes::in_bytes;
 
-// The plate chosen from a list.
-#[derive(Clone, Copy)]
-pub enum Choice {
-    Plate(u32),
-    NoPlate,
+// A plate as an entry of a list.
+pub trait Plate: Copy {
+    ghost thickness_of: { Self → ℕ };
+
+    fn thickness(self) -> u32
+        ensures { result ≡ thickness_of self };
+}
+
+impl Plate for u32 {
+    ghost thickness_of = { λ plate. plate };
+
+    fn thickness(self) -> u32 {
+        self
+    }
 }
 
 // The choice so far, or a plate that serves and is smaller.
-fn better_of(total: u64, choice: Choice, plate: u32) -> Choice
+fn better_of(total: u64, choice: Option<u32>, plate: u32) -> Option<u32>
     ensures { result ≡ better total choice plate }
 {
-    if (plate as u64) < total {
+    if u64::from(plate) < total {
         return choice;
     }
     match choice {
-        Choice::Plate(chosen) => {
-            if plate < chosen {
-                Choice::Plate(plate)
-            } else {
-                choice
-            }
-        }
-        Choice::NoPlate => Choice::Plate(plate),
+        Some(chosen) if chosen <= plate => choice,
+        _ => Some(plate),
     }
 }
 
 // The smallest plate of the list that is not below the total, the first of equals.
-pub fn smallest_serving(total: u64, plates: &[u32]) -> Choice
-    ensures value { result ≡ smallest_serving total plates.now }
-    ensures smallest { Smallest total plates.now result }
+pub fn smallest_serving<P: Plate>(total: u64, plates: &[P]) -> Option<u32>
+    ensures value { result ≡ smallest_serving total (map P.thickness_of plates.now) }
+    ensures smallest { Smallest total (map P.thickness_of plates.now) result }
 {
-    let mut choice = Choice::NoPlate;
-    let mut i: usize = 0;
-    while i < plates.len() {
-        choice = better_of(total, choice, plates[i]);
-        i += 1;
-    }
-    choice
-}
-
-// The same choice from C's list: bytes, four to a plate, lowest first; a remainder of fewer than four is not read.
-pub fn smallest_serving_from_bytes(total: u64, bytes: &[u8]) -> Choice
-    ensures value { result ≡ smallest_serving total (plates_in bytes.now) }
-    ensures smallest { Smallest total (plates_in bytes.now) result }
-{
-    let mut choice = Choice::NoPlate;
-    let mut at: usize = 0;
-    while 4 <= bytes.len() - at {
-        choice = better_of(total, choice, number_at(bytes, at));
-        at += 4;
+    let mut choice = None;
+    for plate in plates {
+        choice = better_of(total, choice, plate.thickness());
     }
     choice
 }

@@ -1,5 +1,5 @@
 -- Lent space, and text written over a part of it.
-use Rattle.std.specs.Prelude.{ℕ, ◌+◌, cond, List, ◌++◌, ◌≡◌, leb, length, take, drop}
+use Rattle.std.specs.Prelude.{ℕ, ◌+◌, cond, List, ◌++◌, leb, length, take, drop}
 
 -- d with s written over it from index at on
 unfoldable pub written_at : ℕ → List ℕ → List ℕ → List ℕ
@@ -8,8 +8,3 @@ written_at at s d = take at d ++ (s ++ drop (at + length s) d)
 -- lent space: s from index at on where it fits, with the old content before and after it; else the old content
 unfoldable pub laid : ℕ → List ℕ → List ℕ → List ℕ
 laid at s d = cond (leb (at + length s) (length d)) (written_at at s d) d
-
--- what a writer did: s stands in the space from at on, and next is the place after it
-pub record Wrote (d : List ℕ) (at : ℕ) (s : List ℕ) (next : ℕ) (d' : List ℕ) : Type 0 where
-  pub place : next ≡ at + length s
-  pub content : d' ≡ written_at at s d

@@ -4,6 +4,7 @@
 mod lines;
 
 ghost use Rattle.std.specs.Prelude.{◌≤◌, ◌≡◌, length};
+ghost use Rattle.rules.specs.Answer.{in_numbers};
 ghost use Rattle.report.specs.Report.{report_text, longest};
 ghost use Rattle.report.specs.Space.{laid};
 
@@ -16,16 +17,15 @@ pub const LONGEST: usize = 319;
 // The length of the answer's report. Where it fits, the report stands in `out` from index `at` on; where it does not,
 // `out` is as it was.
 pub fn write(answer: Answer, out: &mut [u8], at: usize) -> usize
-    ensures value { result ≡ length (report_text answer) }
-    ensures content { out.new ≡ laid at (report_text answer) out.old }
+    ensures value { result ≡ length (report_text (in_numbers answer)) }
+    ensures content { out.new ≡ laid at (report_text (in_numbers answer)) out.old }
     ensures short { result ≤ longest }
 {
-    let mut text = [0u8; LONGEST];
-    let length = spell(answer, &mut text);
-    if at <= out.len() {
-        if length <= out.len() - at {
-            out[at..at + length].copy_from_slice(&text[..length]);
-        }
+    let text = spell(answer);
+    let length = text.len();
+    // Not `get_mut`: its contract is silent on what `out` holds after a write.
+    if at <= out.len() && length <= out.len() - at {
+        out[at..at + length].copy_from_slice(&text);
     }
     length
 }

@@ -1,91 +1,69 @@
-// The lines of a report, one after another.
-ghost use Rattle.std.specs.Prelude.{◌+◌, ◌≤◌, length};
-ghost use Rattle.rules.specs.declared.Answer.TheVariants.{Endplate, BlindFlange, Refused};
-ghost use Rattle.report.specs.Decimal.{decimal, number_line};
-ghost use Rattle.report.specs.Report.{report_text, line_room, longest};
-ghost use Rattle.report.specs.Space.{Wrote};
+// The text of a report: its lines, one after another.
+ghost use Rattle.std.specs.Prelude.{◌≡◌, ◌+◌, ◌≤◌, ◌++◌};
+ghost use Rattle.arrayvec.specs.ArrayVec.{array_vec_len};
+ghost use Rattle.rules.specs.Answer.{in_numbers};
+ghost use Rattle.report.specs.Decimal.{number_line};
+ghost use Rattle.report.specs.Report.{report_text, row_lines, rows_room, line_room, longest};
 
-use rules::{Answer, BlindFlangeFigures, EndplateFigures};
+use crate::LONGEST;
+use arrayvec::ArrayVec;
+use itoa::Buffer;
+use rules::{Answer, Size};
 
-// Writes the bytes from index `at` on, and answers the index after them. So do all writers here.
-fn put(out: &mut [u8], at: usize, text: &[u8]) -> usize
-    requires { at + length text.now ≤ length out.old }
-    ensures { Wrote out.old at text.now result out.new }
+type Text = ArrayVec<u8, LONGEST>;
+
+// Key, `=`, number, LF. The line has room, so no `unwrap` stops.
+fn put_line(text: &mut Text, key: &[u8], n: u64)
+    requires { array_vec_len text.old + line_room key.now ≤ longest }
+    ensures line { text.new.items ≡ text.old.items ++ number_line key.now n }
+    ensures short { array_vec_len text.new ≤ array_vec_len text.old + line_room key.now }
 {
-    let end = at + text.len();
-    out[at..end].copy_from_slice(text);
-    end
+    let mut buffer = Buffer::new();
+    let digits = buffer.format(n);
+    text.try_extend_from_slice(key).unwrap();
+    text.push(b'=');
+    text.try_extend_from_slice(digits.as_bytes()).unwrap();
+    text.push(b'\n');
 }
 
-fn put_decimal(out: &mut [u8], at: usize, n: u64) -> usize
-    requires { at + 20 ≤ length out.old }
-    ensures wrote { Wrote out.old at (decimal n) result out.new }
-    ensures short { result ≤ at + 20 }
+// A line for each key and the number beside it.
+fn text_of(rows: &[(&[u8], u64)]) -> Text
+    requires { rows_room rows.now ≤ longest }
+    ensures { result.items ≡ row_lines rows.now }
 {
-    let mut digits = [0u8; 20];
-    let count = io::decimal(n, &mut digits);
-    put(out, at, &digits[..count])
+    let mut text = ArrayVec::new();
+    for &(key, n) in rows {
+        put_line(&mut text, key, n);
+    }
+    text
 }
 
-// Key, `=`, number, LF.
-fn put_line(out: &mut [u8], at: usize, key: &[u8], n: u64) -> usize
-    requires { at + line_room key.now ≤ length out.old }
-    ensures wrote { Wrote out.old at (number_line key.now n) result out.new }
-    ensures short { result ≤ at + line_room key.now }
-{
-    let at = put(out, at, key);
-    let at = put(out, at, b"=");
-    let at = put_decimal(out, at, n);
-    put(out, at, b"\n")
-}
-
-fn endplate_lines(figures: EndplateFigures, plate: u32, out: &mut [u8]) -> usize
-    requires { longest ≤ length out.old }
-    ensures wrote { Wrote out.old 0 (report_text (Endplate figures plate)) result out.new }
-    ensures short { result ≤ longest }
-{
-    let at = put_line(out, 0, b"stress", figures.design_stress);
-    let at = put_line(out, at, b"need", figures.thickness);
-    let at = put_line(out, at, b"total", figures.total);
-    put_line(out, at, b"plate", plate as u64)
-}
-
-fn blind_flange_lines(f: BlindFlangeFigures, plate: u32, out: &mut [u8]) -> usize
-    requires { longest ≤ length out.old }
-    ensures wrote { Wrote out.old 0 (report_text (BlindFlange f plate)) result out.new }
-    ensures short { result ≤ longest }
-{
-    let at = put_line(out, 0, b"stress", f.design_stress);
-    let at = put_line(out, at, b"cold", f.ambient_stress);
-    let at = put_line(out, at, b"g", f.reaction_diameter);
-    let at = put_line(out, at, b"b", f.effective_width);
-    let at = put_line(out, at, b"wm1", f.operating_load);
-    let at = put_line(out, at, b"wm2", f.seating_load);
-    let at = put_line(out, at, b"w", f.flange_load);
-    let at = put_line(out, at, b"need", f.thickness);
-    let at = put_line(out, at, b"edge", f.edge_thickness);
-    let at = put_line(out, at, b"total", f.total);
-    put_line(out, at, b"plate", plate as u64)
-}
-
-fn refused_lines(cause: u32, figure: u64, out: &mut [u8]) -> usize
-    requires { longest ≤ length out.old }
-    ensures wrote { Wrote out.old 0 (report_text (Refused cause figure)) result out.new }
-    ensures short { result ≤ longest }
-{
-    let at = put_line(out, 0, b"refused", cause as u64);
-    put_line(out, at, b"place", figure)
-}
-
-// The report, from the front of `out`.
-pub(crate) fn spell(answer: Answer, out: &mut [u8]) -> usize
-    requires { longest ≤ length out.old }
-    ensures wrote { Wrote out.old 0 (report_text answer) result out.new }
-    ensures short { result ≤ longest }
+pub(crate) fn spell(answer: Answer) -> Text
+    ensures { result.items ≡ report_text (in_numbers answer) }
 {
     match answer {
-        Answer::Endplate { figures, plate } => endplate_lines(figures, plate, out),
-        Answer::BlindFlange { figures, plate } => blind_flange_lines(figures, plate, out),
-        Answer::Refused { cause, figure } => refused_lines(cause, figure, out),
+        Ok(Size::Endplate { figures, plate }) => text_of(&[
+            (b"stress", figures.design_stress),
+            (b"need", figures.thickness),
+            (b"total", figures.total),
+            (b"plate", u64::from(plate)),
+        ]),
+        Ok(Size::BlindFlange { figures: f, plate }) => text_of(&[
+            (b"stress", f.design_stress),
+            (b"cold", f.ambient_stress),
+            (b"g", f.reaction_diameter),
+            (b"b", f.effective_width),
+            (b"wm1", f.operating_load),
+            (b"wm2", f.seating_load),
+            (b"w", f.flange_load),
+            (b"need", f.thickness),
+            (b"edge", f.edge_thickness),
+            (b"total", f.total),
+            (b"plate", u64::from(plate)),
+        ]),
+        Err(refusal) => text_of(&[
+            (b"refused", u64::from(refusal.cause.number())),
+            (b"place", refusal.figure),
+        ]),
     }
 }

@@ -11,17 +11,12 @@ const OVER_ZERO: u64 = 0;
 pub fn ceil_div(n: u64, d: u64) -> u64
     ensures { result ≡ ceil_div n d }
 {
-    if d == 0 {
-        OVER_ZERO
-    } else if n % d == 0 {
-        n / d
-    } else {
-        n / d + 1
-    }
+    if d == 0 { OVER_ZERO } else { n.div_ceil(d) }
 }
 
 // The whole root of a number and what is left over: the number less the root's square, at most twice the root.
-// Where the number is below 2^62, the sum of the fields has both: they pass between calls as one u64, in a register.
+// Where the number is below 2^62, the sum of the fields has both: they pass between calls as one u64, in a register
+// (a struct costs a quarter more a root: docs/changes/R-5.md).
 #[derive(Clone, Copy)]
 struct Whole {
     // the root, from bit 32 on

@@ -9,8 +9,7 @@ use borrow.Author.Tests.{ne_eqb}
 use lib.Dec.{eqb}
 use Rattle.plates.specs.Plates.{smallest_serving, plate_of, is_chosen}
 use Rattle.plates.proofs.Laws.{chosen-serves}
-use Rattle.plates.specs.declared.Choice.{Choice}
-use Rattle.plates.specs.declared.Choice.TheVariants.{Plate, NoPlate}
+use Rattle.std.specs.Prelude.{Option, Some, None}
 use Rattle.limits.specs.Causes.{Causes, first_of, first_cause, of_numbers, of_bolting, of_loads, of_plates}
 use Rattle.limits.specs.Limits.{endplate_causes, flange_limits}
 use Rattle.limits.specs.declared.EndplateSheet.{EndplateSheet}
@@ -25,9 +24,9 @@ use Rattle.rules.specs.Numbers.{cause_from, figure_from, report_from, endplate_c
 use Rattle.rules.specs.Numbers.{endplate_report, blind_flange_cause, blind_flange_figure, blind_flange_report}
 use Rattle.rules.specs.declared.EndplateFigures.{EndplateFigures}
 use Rattle.rules.specs.declared.BlindFlangeFigures.{BlindFlangeFigures}
-use Rattle.rules.specs.declared.sizing.Sizing.{Sizing}
-use Rattle.rules.specs.declared.sizing.Sizing.TheVariants.{Endplate, BlindFlange, Refused}
-use Rattle.rules.specs.declared.Answer.{Answer}
+use Rattle.rules.specs.Sizing.{Sizing}
+use Rattle.rules.specs.Sizing.{Endplate, BlindFlange, Refused}
+use Rattle.rules.specs.Answer.{Answer}
 
 -- ---- the causes before 14
 
@@ -60,11 +59,11 @@ abbrev pub Told : ℕ → ℕ → List ℕ → Answer → Type 0
 Told cause figure report answer = (cause_of answer ≡ cause) × (figure_of answer ≡ figure) × (report_of answer ≡ report)
 
 -- where nothing before 14 applies: 14 if no plate was chosen
-abbrev last_cause : Choice → ℕ
+abbrev last_cause : Option ℕ → ℕ
 last_cause c = cond (not (is_chosen c)) 14 0
 
 -- the numbers of what is sized, with a choice
-abbrev Last : Sizing → List ℕ → Choice → Type 0
+abbrev Last : Sizing → List ℕ → Option ℕ → Type 0
 Last sized figures c =
     Told
     (last_cause c)
@@ -78,14 +77,14 @@ module _ (cs : Causes) (plate-last : (t : Bool) → PlateLast cs t) (sized : Siz
     abbrev total : ℕ
     total = total_of sized
 
-    abbrev choice : Choice
+    abbrev choice : Option ℕ
     choice = smallest_serving total plates
 
     cause : cause_from cs total plates ≡ cond (eqb (first_cause cs) 0) (last_cause choice) (first_cause cs)
     cause = (plate-last _).0 ∙ rw (chosen-serves total plates)
 
     pub told :
-        ((c : Choice) → Last sized figures c) →
+        ((c : Option ℕ) → Last sized figures c) →
         let k = cause_from cs total plates in
         Told
         k (figure_from k total) (report_from k figures total plates)
@@ -105,13 +104,13 @@ module _ (cs : Causes) (plate-last : (t : Bool) → PlateLast cs t) (sized : Siz
 
 -- ---- both parts
 
-by_choice : (f : EndplateFigures) (c : Choice) → Last (Endplate f) (endplate_list f) c
-by_choice f (Plate plate) = (refl, refl, refl)
-by_choice f NoPlate = (refl, refl, refl)
+by_choice : (f : EndplateFigures) (c : Option ℕ) → Last (Endplate f) (endplate_list f) c
+by_choice f (Some plate) = (refl, refl, refl)
+by_choice f None = (refl, refl, refl)
 
-by_flange_choice : (f : BlindFlangeFigures) (c : Choice) → Last (BlindFlange f) (blind_flange_list f) c
-by_flange_choice f (Plate plate) = (refl, refl, refl)
-by_flange_choice f NoPlate = (refl, refl, refl)
+by_flange_choice : (f : BlindFlangeFigures) (c : Option ℕ) → Last (BlindFlange f) (blind_flange_list f) c
+by_flange_choice f (Some plate) = (refl, refl, refl)
+by_flange_choice f None = (refl, refl, refl)
 
 pub endplate_numbers : (s : EndplateSheet) (plates : List ℕ) →
     Told (endplate_cause s plates) (endplate_figure s plates) (endplate_report s plates) (endplate_answer s plates)

@@ -3,8 +3,7 @@ use mathlib.Core.Path.{◌≡◌, refl, sym, subst}
 use mathlib.Core.List.{List}
 use Prim.Native.Nat.{ℕ}
 use native.Mathlib.Omega.{arith}
-use Rattle.plates.specs.declared.Choice.{Choice}
-use Rattle.plates.specs.declared.Choice.TheVariants.{Plate, NoPlate}
+use Rattle.std.specs.Prelude.{Option, Some, None}
 use Rattle.limits.specs.declared.EndplateSheet.{EndplateSheet}
 use Rattle.limits.specs.declared.BlindFlangeSheet.{BlindFlangeSheet}
 use Rattle.rules.specs.Answer.{endplate_sizing, blind_flange_sizing, with_plate, from_plates}
@@ -15,8 +14,8 @@ use Rattle.rules.specs.Exact.{EndplateThicknessExact, EndplateExact, ThicknessEx
 use Rattle.rules.specs.Exact.{BlindFlangeExact}
 use Rattle.rules.specs.declared.EndplateFigures.{EndplateFigures}
 use Rattle.rules.specs.declared.BlindFlangeFigures.{BlindFlangeFigures}
-use Rattle.rules.specs.declared.sizing.Sizing.TheVariants.{Endplate, BlindFlange}
-use Rattle.rules.specs.declared.Answer.{Answer}
+use Rattle.rules.specs.Sizing.{Endplate, BlindFlange}
+use Rattle.rules.specs.Answer.{Answer}
 use Rattle.rules.proofs.SizedOrRefused.{by_cause}
 use Rattle.rules.proofs.AnswerInNumbers.{Told, endplate_numbers, flange_numbers}
 use Rattle.rules.proofs.Exactness.{endplate_least, thickness_near, edge_near}
@@ -30,12 +29,12 @@ module _ (s : EndplateSheet) where
   by_choice :
       (f : EndplateFigures) →
       EndplateThicknessExact s f.thickness →
-      (choice : Choice) →
+      (choice : Option ℕ) →
       EndplateExact s (with_plate (Endplate f) choice)
-  by_choice f h (Plate plate) z = h
-  by_choice f h NoPlate z = absurd (omega (arith, z))
+  by_choice f h (Some plate) z = h
+  by_choice f h None z = absurd (omega (arith, z))
 
-  sized_exact : (choice : Choice) → EndplateExact s (with_plate (endplate_sizing s) choice)
+  sized_exact : (choice : Option ℕ) → EndplateExact s (with_plate (endplate_sizing s) choice)
   unfolding endplate_sizing
   sized_exact choice =
       by_cause (λ z. EndplateExact s (with_plate z choice)) (λ cause h z. absurd (h z)) _ _
@@ -61,12 +60,12 @@ module _ (s : BlindFlangeSheet) where
   by_flange_choice :
       (f : BlindFlangeFigures) →
       ThicknessExact s f.thickness × EdgeExact s f.edge_thickness →
-      (choice : Choice) →
+      (choice : Option ℕ) →
       BlindFlangeExact s (with_plate (BlindFlange f) choice)
-  by_flange_choice f h (Plate plate) z = h
-  by_flange_choice f h NoPlate z = absurd (omega (arith, z))
+  by_flange_choice f h (Some plate) z = h
+  by_flange_choice f h None z = absurd (omega (arith, z))
 
-  flange_sized_exact : (choice : Choice) → BlindFlangeExact s (with_plate (blind_flange_sizing s) choice)
+  flange_sized_exact : (choice : Option ℕ) → BlindFlangeExact s (with_plate (blind_flange_sizing s) choice)
   unfolding blind_flange_sizing
   flange_sized_exact choice =
       by_cause (λ z. BlindFlangeExact s (with_plate z choice)) (λ cause h z. absurd (h z)) _ _

@@ -1,8 +1,9 @@
 -- Bounds of a blind flange's gasket and figures within the limits, each from those that it is worked from. Assumes nothing.
 use mathlib.Core.Path.{◌≡◌, refl}
-use Prim.Native.Nat.{ℕ, ◌+◌, ◌-◌, ◌/◌, ◌≤◌}
+use Rattle.std.specs.Prelude.{ℕ, ◌+◌, ◌-◌, ◌/◌, ◌≤◌, Some}
 use native.Mathlib.Omega.{arith}
-use Rattle.tables.specs.DesignStress.{design_stress_of}
+use borrow.Author.Tests.{ne_eqb}
+use Rattle.tables.specs.DesignStress.{design_stress_of, nonzero}
 use Rattle.tables.proofs.Laws.{least_stress, stress_least, stress_most, ambient_greatest}
 use Rattle.limits.specs.declared.BlindFlangeSheet.{BlindFlangeSheet}
 use Rattle.rules.specs.Bounds.{most_stress, most_diameter, most_lever, most_effective_width, most_gasket_load}
@@ -36,6 +37,13 @@ module _ (s : BlindFlangeSheet) (a : FlangeWithin s) where
       let most = stress_most s.material s.temperature in
       let ambient_most = stress_most s.material ambient in
       omega arith
+
+  -- the stress cold is there: what is handed out is Some of it
+  pub ambient_given : nonzero (design_stress_of s.material ambient) ≡ Some (design_stress_of s.material ambient)
+  ambient_given = by_stress _ (omega (arith, (stresses refl refl).ambient_least))
+    where
+      by_stress : (S0 : ℕ) → 1 ≤ S0 → nonzero S0 ≡ Some S0
+      by_stress S0 h = rw (ne_eqb S0 0 (omega arith))
 
   -- ---- the gasket
 

@@ -12,3 +12,4 @@ mod EveryCauseChecked
 mod SizedOrRefused
 mod AnswerInNumbers
 mod AnswersExact
+mod WithPlate

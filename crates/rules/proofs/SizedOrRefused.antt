@@ -17,8 +17,8 @@ use Rattle.rules.specs.Figures.{endplate_figures, blind_flange_figures}
 use Rattle.rules.specs.Answer.{refused_or, endplate_sizing, blind_flange_sizing}
 use Rattle.rules.specs.declared.EndplateFigures.{EndplateFigures}
 use Rattle.rules.specs.declared.BlindFlangeFigures.{BlindFlangeFigures}
-use Rattle.rules.specs.declared.sizing.Sizing.{Sizing}
-use Rattle.rules.specs.declared.sizing.Sizing.TheVariants.{Endplate, BlindFlange, Refused}
+use Rattle.rules.specs.Sizing.{Sizing}
+use Rattle.rules.specs.Sizing.{Endplate, BlindFlange, Refused}
 
 refused : (cause : ℕ) (sized : Sizing) → cause ≢ 0 → Refused cause ≡ refused_or cause sized
 refused cause sized h = simp (ne_eqb cause 0 h)
@@ -42,10 +42,10 @@ module _ (s : EndplateSheet) where
   unfolding endplate_sizing
   endplate_refused e h = rw (← e) (refused _ _ h)
 
-  pub endplate_sized :
+  pub endplate_fits :
       {f : EndplateFigures} → 0 ≡ first_cause (endplate_causes s) → f ≡ endplate_figures s → Endplate f ≡ endplate_sizing s
   unfolding endplate_sizing
-  endplate_sized e q = rw (q, ← e)
+  endplate_fits e q = rw (q, ← e)
 
 module _ (s : BlindFlangeSheet) where
   -- the steps: its numbers, its bolting, its loads

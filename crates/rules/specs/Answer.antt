@@ -1,22 +1,38 @@
 -- The answers of the two calculations, and document 01's numbers for each case of an answer.
-use Rattle.std.specs.Prelude.{ℕ, cond, List, [], ◌∷◌, ◌++◌, ◌≡◌, eqb}
+use Rattle.std.specs.Prelude.{ℕ, cond, List, [], ◌∷◌, ◌++◌, ◌≡◌, eqb, Option, Some, None, Result, Ok, Err}
 use Rattle.plates.specs.Plates.{smallest_serving}
-use Rattle.plates.specs.declared.Choice.{Choice}
-use Rattle.plates.specs.declared.Choice.TheVariants.{Plate, NoPlate}
+use Rattle.limits.specs.Cause.{number_of}
+use Rattle.limits.specs.declared.cause.Cause.TheVariants.{NoPlate}
 use Rattle.limits.specs.Causes.{first_cause}
 use Rattle.limits.specs.Limits.{endplate_causes}
 use Rattle.limits.specs.declared.EndplateSheet.{EndplateSheet}
 use Rattle.limits.specs.declared.BlindFlangeSheet.{BlindFlangeSheet}
 use Rattle.rules.specs.FlangeCauses.{blind_flange_causes}
 use Rattle.rules.specs.Figures.{endplate_figures, blind_flange_figures}
+use Rattle.rules.specs.Sizing.{Sizing, Endplate as Sizing-as-Endplate, BlindFlange as Sizing-as-BlindFlange, Refused as Sizing-as-Refused}
 use Rattle.rules.specs.declared.EndplateFigures.{EndplateFigures}
 use Rattle.rules.specs.declared.BlindFlangeFigures.{BlindFlangeFigures}
-use Rattle.rules.specs.declared.sizing.Sizing.{Sizing}
-use Rattle.rules.specs.declared.sizing.Sizing.TheVariants.{Endplate as Sizing-as-Endplate}
-use Rattle.rules.specs.declared.sizing.Sizing.TheVariants.{BlindFlange as Sizing-as-BlindFlange}
-use Rattle.rules.specs.declared.sizing.Sizing.TheVariants.{Refused as Sizing-as-Refused}
-use Rattle.rules.specs.declared.Answer.{Answer}
-use Rattle.rules.specs.declared.Answer.TheVariants.{Endplate, BlindFlange, Refused}
+use Rattle.rules.specs.declared.Size.{Size}
+use Rattle.rules.specs.declared.Size.TheVariants.{Endplate as Size-as-Endplate, BlindFlange as Size-as-BlindFlange}
+use Rattle.rules.specs.declared.Refusal.{Refusal}
+
+-- ---- an answer: figures and plate, or a cause by its number, with its figure
+
+pub data Answer : Type 0 where
+  Endplate : EndplateFigures → ℕ → Answer
+  BlindFlange : BlindFlangeFigures → ℕ → Answer
+  Refused : ℕ → ℕ → Answer
+
+-- what a calculation returns, in document 01's numbers
+abbrev pub in_numbers : Result Size Refusal → Answer
+in_numbers (Ok (Size-as-Endplate f plate)) = Endplate f plate
+in_numbers (Ok (Size-as-BlindFlange f plate)) = BlindFlange f plate
+in_numbers (Err r) = Refused (number_of r.cause) r.figure
+
+-- a plate chosen for a total, or the refusal that none serves
+abbrev pub taken : ℕ → Option ℕ → Result ℕ Refusal
+taken total (Some plate) = Ok plate
+taken total None = Err record { cause = NoPlate; figure = total }
 
 -- ---- a part's size, before its plate is chosen; or the first cause that applies
 
@@ -45,11 +61,11 @@ total_of (Sizing-as-Refused cause) = 0
 -- ---- the answer, with the plate chosen from a list
 
 -- 14: no listed plate serves, with the total as its figure; every earlier cause has the figure 0
-abbrev pub with_plate : Sizing → Choice → Answer
-with_plate (Sizing-as-Endplate f) (Plate plate) = Endplate f plate
-with_plate (Sizing-as-Endplate f) NoPlate = Refused 14 f.total
-with_plate (Sizing-as-BlindFlange f) (Plate plate) = BlindFlange f plate
-with_plate (Sizing-as-BlindFlange f) NoPlate = Refused 14 f.total
+abbrev pub with_plate : Sizing → Option ℕ → Answer
+with_plate (Sizing-as-Endplate f) (Some plate) = Endplate f plate
+with_plate (Sizing-as-Endplate f) None = Refused 14 f.total
+with_plate (Sizing-as-BlindFlange f) (Some plate) = BlindFlange f plate
+with_plate (Sizing-as-BlindFlange f) None = Refused 14 f.total
 with_plate (Sizing-as-Refused cause) choice = Refused cause 0
 
 abbrev pub from_plates : Sizing → List ℕ → Answer

@@ -11,8 +11,8 @@ use Rattle.rules.specs.Loads.{exact_flange_load, exact_operating_load_of, exact_
 use Rattle.rules.specs.Bolts.{bolt_area}
 use Rattle.rules.specs.Figures.{ambient}
 use Rattle.rules.specs.Answer.{Accepted}
-use Rattle.rules.specs.declared.Answer.{Answer}
-use Rattle.rules.specs.declared.Answer.TheVariants.{Endplate, BlindFlange, Refused}
+use Rattle.rules.specs.Answer.{Answer}
+use Rattle.rules.specs.Answer.{Endplate, BlindFlange, Refused}
 
 -- ---- the inequalities, each of a number T, e or edge in hundredths of a mm
 

@@ -7,6 +7,7 @@ pub mod Bolts
 pub mod BlindFlange
 pub mod FlangeCauses
 pub mod Figures
+pub mod Sizing
 pub mod Answer
 pub mod Numbers
 pub mod Exact

@@ -1,57 +1,72 @@
 // The figures of a report, from the numbers of a sheet. They are asked for where no cause before 14 applies.
 ghost use Rattle.std.specs.Prelude.{◌≡◌};
+ghost use Rattle.tables.specs.DesignStress.{design_stress_of};
 ghost use Rattle.limits.specs.Causes.{first_cause};
 ghost use Rattle.limits.specs.Limits.{endplate_causes};
+ghost use Rattle.limits.specs.Stress.{endplate_stress};
+ghost use Rattle.rules.specs.Bolts.{bolt_area};
 ghost use Rattle.rules.specs.FlangeCauses.{blind_flange_causes};
 ghost use Rattle.rules.specs.Figures.{endplate_figures, blind_flange_figures};
-ghost use Rattle.rules.specs.Loads.{gasket_of};
+ghost use Rattle.rules.specs.Loads.{gasket_of, flange_load_of};
 
-use crate::bolts::bolt_area;
-use crate::compare::greater;
 use crate::gasket::Gasket;
-use crate::loads::flange_load;
-use crate::thickness::{edge_thickness, endplate_thickness, flange_thickness};
+use crate::thickness::{Diameters, Loading, endplate_thickness};
 use crate::{BlindFlangeFigures, BlindFlangeSheet, EndplateFigures, EndplateSheet};
 
 // The column of the stress cold, °C.
 const AMBIENT: u32 = 50;
 
-pub(crate) fn endplate_figures(s: EndplateSheet) -> EndplateFigures
-    requires { first_cause (endplate_causes s) ≡ 0 }
+// F being the sheet's stress.
+pub(crate) fn endplate_figures(s: EndplateSheet, stress: u32) -> EndplateFigures
+    requires within { first_cause (endplate_causes s) ≡ 0 }
+    requires worked { stress ≡ endplate_stress s.form s.material s.shell s.temperature }
     ensures { result ≡ endplate_figures s }
 {
-    let stress = limits::endplate_stress(s.form, s.material, s.shell, s.temperature);
     let thickness = endplate_thickness(s.form, stress, s.pressure, s.diameter);
     EndplateFigures {
-        design_stress: stress as u64,
+        design_stress: u64::from(stress),
         thickness,
-        total: thickness + (s.allowance as u64),
+        total: thickness + u64::from(s.allowance),
     }
 }
 
-pub(crate) fn blind_flange_figures(s: BlindFlangeSheet, gasket: Gasket) -> BlindFlangeFigures
-    requires { (first_cause (blind_flange_causes s) ≡ 0) × (gasket ≡ gasket_of s) }
+// S, the gasket and W being those of the sheet.
+pub(crate) fn blind_flange_figures(
+    s: BlindFlangeSheet,
+    stress: u32,
+    gasket: Gasket,
+    flange_load: u64,
+) -> BlindFlangeFigures
+    requires within { first_cause (blind_flange_causes s) ≡ 0 }
+    requires worked { (stress ≡ design_stress_of s.material s.temperature) × (gasket ≡ gasket_of s) }
+    requires loaded { flange_load ≡ flange_load_of gasket.operating_load gasket.seating_load (bolt_area s.root s.count) s.sa s.sb }
     ensures { result ≡ blind_flange_figures s }
 {
-    let stress = tables::design_stress(s.material, s.temperature);
-    let ambient = tables::design_stress(s.material, AMBIENT);
-    let g = gasket.reaction_diameter;
-    let operating = gasket.operating_load;
-    let seating = gasket.seating_load;
-    let area = bolt_area(s.root, s.count);
-    let flange = flange_load(operating, seating, area, s.sa, s.sb);
-    let thickness = flange_thickness(stress, g, s.pressure, s.circle, operating);
-    let edge = edge_thickness(stress, ambient, g, s.circle, operating, flange);
+    let ambient_stress = tables::design_stress(s.material, AMBIENT).unwrap();
+    let diameters = Diameters {
+        g: gasket.reaction_diameter,
+        circle: s.circle,
+    };
+    let operating = Loading {
+        stress,
+        load: gasket.operating_load,
+    };
+    let ambient = Loading {
+        stress: ambient_stress,
+        load: flange_load,
+    };
+    let thickness = diameters.flange_thickness(s.pressure, operating);
+    let edge = diameters.edge_thickness(ambient, operating);
     BlindFlangeFigures {
-        design_stress: stress as u64,
-        ambient_stress: ambient as u64,
-        reaction_diameter: g as u64,
+        design_stress: u64::from(stress),
+        ambient_stress: u64::from(ambient_stress),
+        reaction_diameter: u64::from(gasket.reaction_diameter),
         effective_width: gasket.effective_width,
-        operating_load: operating,
-        seating_load: seating,
-        flange_load: flange,
+        operating_load: gasket.operating_load,
+        seating_load: gasket.seating_load,
+        flange_load,
         thickness,
         edge_thickness: edge,
-        total: greater(thickness, edge) + (s.allowance as u64),
+        total: thickness.max(edge) + u64::from(s.allowance),
     }
 }

@@ -7,7 +7,7 @@ ghost use Rattle.rules.specs.Gasket.{effective_width_of};
 ghost use Rattle.rules.specs.Loads.{gasket_of};
 
 use crate::BlindFlangeSheet;
-use crate::loads::{operating_load, seating_load};
+use crate::loads::Contact;
 
 // The gasket of a blind flange and its loads, for the test of the circle, that of the bolts, and the figures.
 #[derive(Clone, Copy)]
@@ -23,13 +23,14 @@ pub(crate) struct Gasket {
 }
 
 // b in hundredths of a mm, of a contact width in tenths; 0 of none.
+#[tactic(auto, unfolding(crate::specs::Gasket::effective_width_of, crate::specs::Gasket::wide_width))]
 fn effective_width(width: u32) -> u64
     ensures { result ≡ effective_width_of width }
 {
     if width <= 126 {
-        5 * (width as u64)
+        5 * u64::from(width)
     } else {
-        10 * root::least_root_over(31752 * (width as u64), 1000)
+        10 * root::least_root_over(31752 * u64::from(width), 1000)
     }
 }
 
@@ -37,12 +38,7 @@ fn effective_width(width: u32) -> u64
 fn reaction_diameter(od: u32, b: u64) -> u32
     ensures { result ≡ od - b / 5 }
 {
-    let inset = b / 5;
-    if inset <= od as u64 {
-        od - (inset as u32)
-    } else {
-        0
-    }
+    u64::from(od).saturating_sub(b / 5) as u32
 }
 
 // Asked for where none of the causes 2 to 9 and 17 applies: within these limits the loads fit.
@@ -51,14 +47,16 @@ pub(crate) fn gasket_of(s: BlindFlangeSheet) -> Gasket
     ensures { result ≡ gasket_of s }
 {
     let b = effective_width(s.width);
-    let br = effective_width(s.rib_width);
-    let g = reaction_diameter(s.od, b);
-    let operating = operating_load(g, b, s.rib, br, s.m, s.pressure);
-    let seating = seating_load(g, b, s.rib, br, s.y);
+    let contact = Contact {
+        g: reaction_diameter(s.od, b),
+        b,
+        rib: s.rib,
+        br: effective_width(s.rib_width),
+    };
     Gasket {
-        reaction_diameter: g,
+        reaction_diameter: contact.g,
         effective_width: b,
-        operating_load: operating,
-        seating_load: seating,
+        operating_load: contact.operating_load(s.m, s.pressure),
+        seating_load: contact.seating_load(s.y),
     }
 }

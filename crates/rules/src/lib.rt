@@ -2,24 +2,24 @@
 #![tactic(auto)]
 
 ghost use Rattle.std.specs.Prelude.{◌≡◌};
-ghost use Rattle.rules.specs.Answer.{endplate_answer, blind_flange_answer};
+ghost use mathlib.Core.List.{map};
+ghost use Rattle.rules.specs.Answer.{endplate_answer, blind_flange_answer, in_numbers};
 ghost use Rattle.rules.specs.Answer.{cause_of, figure_of, report_of};
 ghost use Rattle.rules.specs.Exact.{EndplateExact, BlindFlangeExact};
 ghost use Rattle.rules.specs.Numbers.{endplate_cause, endplate_figure, endplate_report};
 ghost use Rattle.rules.specs.Numbers.{blind_flange_cause, blind_flange_figure, blind_flange_report};
-ghost use Rattle.plates.specs.Plates.{plates_in, standard_plates};
 
-pub use limits::{BlindFlangeSheet, EndplateSheet};
+pub use limits::{BlindFlangeSheet, Cause, EndplateSheet};
 
 mod bolts;
-mod compare;
 mod figures;
 mod gasket;
 mod loads;
 mod sizing;
 mod thickness;
 
-use sizing::{blind_flange_sizing, endplate_sizing, from_bytes, from_plates, from_standard};
+use plates::Plate;
+use sizing::{blind_flange_sizing, chosen, endplate_sizing};
 
 // The figures of an endplate's report but for the plate.
 #[derive(Clone, Copy)]
@@ -57,9 +57,9 @@ pub struct BlindFlangeFigures {
     pub total: u64,
 }
 
-// What a calculation answers. The figure of a refusal is the total where no plate serves, else 0.
+// A part sized: the figures of its report, and the plate chosen.
 #[derive(Clone, Copy)]
-pub enum Answer {
+pub enum Size {
     Endplate {
         figures: EndplateFigures,
         plate: u32,
@@ -68,74 +68,50 @@ pub enum Answer {
         figures: BlindFlangeFigures,
         plate: u32,
     },
-    Refused {
-        cause: u32,
-        figure: u64,
-    },
 }
 
+// The first cause to refuse a part, and the figure returned with it: the line of 1, the total of 14, else 0.
+#[derive(Clone, Copy, Debug, PartialEq, Eq)]
+pub struct Refusal {
+    pub cause: Cause,
+    pub figure: u64,
+}
+
+impl From<Cause> for Refusal {
+    ghost from_gives = { λ cause r. r ≡ record { cause = cause; figure = 0 } };
+
+    fn from(cause: Cause) -> Refusal {
+        Refusal { cause, figure: 0 }
+    }
+}
+
+// What a calculation answers.
+pub type Answer = Result<Size, Refusal>;
+
 // The size of an endplate from a list of plates, or the first cause to refuse it.
-pub fn endplate(s: EndplateSheet, plates: &[u32]) -> Answer
-    ensures value { result ≡ endplate_answer s plates.now }
-    ensures numbers { let ps = plates.now in
-        (cause_of result ≡ endplate_cause s ps) × (figure_of result ≡ endplate_figure s ps) × (report_of result ≡ endplate_report s ps) }
-    ensures exact { EndplateExact s result }
+pub fn endplate<P: Plate>(s: EndplateSheet, plates: &[P]) -> Answer
+    ensures value { in_numbers result ≡ endplate_answer s (map P.thickness_of plates.now) }
+    ensures numbers { let ps = map P.thickness_of plates.now in
+        let answer = in_numbers result in
+        (cause_of answer ≡ endplate_cause s ps) × (figure_of answer ≡ endplate_figure s ps) × (report_of answer ≡ endplate_report s ps) }
+    ensures exact { EndplateExact s (in_numbers result) }
 {
-    from_plates(endplate_sizing(s), plates)
+    let figures = endplate_sizing(s)?;
+    let plate = chosen(figures.total, plates)?;
+    Ok(Size::Endplate { figures, plate })
 }
 
 // The size of a blind flange from a list of plates, or the first cause to refuse it.
-pub fn blind_flange(s: BlindFlangeSheet, plates: &[u32]) -> Answer
-    ensures value { result ≡ blind_flange_answer s plates.now }
-    ensures numbers { let ps = plates.now in
-        (cause_of result ≡ blind_flange_cause s ps)
-        × (figure_of result ≡ blind_flange_figure s ps)
-        × (report_of result ≡ blind_flange_report s ps) }
-    ensures exact { BlindFlangeExact s result }
+pub fn blind_flange<P: Plate>(s: BlindFlangeSheet, plates: &[P]) -> Answer
+    ensures value { in_numbers result ≡ blind_flange_answer s (map P.thickness_of plates.now) }
+    ensures numbers { let ps = map P.thickness_of plates.now in
+        let answer = in_numbers result in
+        (cause_of answer ≡ blind_flange_cause s ps)
+        × (figure_of answer ≡ blind_flange_figure s ps)
+        × (report_of answer ≡ blind_flange_report s ps) }
+    ensures exact { BlindFlangeExact s (in_numbers result) }
 {
-    from_plates(blind_flange_sizing(s), plates)
-}
-
-// The same from C's plates: bytes, four to a plate, lowest first.
-pub fn endplate_from_bytes(s: EndplateSheet, plates: &[u8]) -> Answer
-    ensures value { result ≡ endplate_answer s (plates_in plates.now) }
-    ensures numbers { let ps = plates_in plates.now in
-        (cause_of result ≡ endplate_cause s ps) × (figure_of result ≡ endplate_figure s ps) × (report_of result ≡ endplate_report s ps) }
-    ensures exact { EndplateExact s result }
-{
-    from_bytes(endplate_sizing(s), plates)
-}
-
-// The same of a blind flange.
-pub fn blind_flange_from_bytes(s: BlindFlangeSheet, plates: &[u8]) -> Answer
-    ensures value { result ≡ blind_flange_answer s (plates_in plates.now) }
-    ensures numbers { let ps = plates_in plates.now in
-        (cause_of result ≡ blind_flange_cause s ps)
-        × (figure_of result ≡ blind_flange_figure s ps)
-        × (report_of result ≡ blind_flange_report s ps) }
-    ensures exact { BlindFlangeExact s result }
-{
-    from_bytes(blind_flange_sizing(s), plates)
-}
-
-// The size of an endplate from the usual stock, or the first cause to refuse it.
-pub fn endplate_standard(s: EndplateSheet) -> Answer
-    ensures value { result ≡ endplate_answer s standard_plates }
-    ensures numbers { let ps = standard_plates in
-        (cause_of result ≡ endplate_cause s ps) × (figure_of result ≡ endplate_figure s ps) × (report_of result ≡ endplate_report s ps) }
-    ensures exact { EndplateExact s result }
-{
-    from_standard(endplate_sizing(s))
-}
-
-// The same of a blind flange.
-pub fn blind_flange_standard(s: BlindFlangeSheet) -> Answer
-    ensures value { result ≡ blind_flange_answer s standard_plates }
-    ensures numbers { let ps = standard_plates in
-        (cause_of result ≡ blind_flange_cause s ps)
-        × (figure_of result ≡ blind_flange_figure s ps)
-        × (report_of result ≡ blind_flange_report s ps) }
-    ensures exact { BlindFlangeExact s result }
-{
-    from_standard(blind_flange_sizing(s))
+    let figures = blind_flange_sizing(s)?;
+    let plate = chosen(figures.total, plates)?;
+    Ok(Size::BlindFlange { figures, plate })
 }

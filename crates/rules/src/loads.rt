@@ -1,46 +1,48 @@
-// Bolt loads, in tenths of a newton. The bounds asked for are wider than the limits: with them the products fit.
+// Loads of the gasket, in tenths of a newton.
 ghost use Rattle.std.specs.Prelude.{◌≡◌, ◌≤◌};
 ghost use Rattle.rules.specs.Bounds.{most_pressure, most_diameter, most_effective_width, most_rib, most_factor};
-ghost use Rattle.rules.specs.Bounds.{BoltsBounded};
 ghost use Rattle.rules.specs.Loads.{exact_operating_load, exact_seating_load};
-ghost use Rattle.rules.specs.Loads.{operating_load_of, seating_load_of, flange_load_of};
+ghost use Rattle.rules.specs.Loads.{operating_load_of, seating_load_of};
 
-use crate::compare::greater;
-
-// Wm1, of the ring and of a rib with its own b.
-pub(crate) fn operating_load(g: u32, b: u64, rib: u32, br: u64, m: u32, pressure: u32) -> u64
-    requires ring_bounded { (g ≤ most_diameter) × (b ≤ most_effective_width) × (m ≤ most_factor) × (pressure ≤ most_pressure) }
-    requires rib_bounded { (rib ≤ most_rib) × (br ≤ most_effective_width) }
-    ensures { result ≡ operating_load_of (exact_operating_load g b rib br m pressure) }
-{
-    let g = g as u64;
-    let m = m as u64;
-    let p = pressure as u64;
-    let end = 78500 * (g * g) * p;
-    let ring = 628 * b * g * m * p;
-    let rib = 200 * br * (rib as u64) * m * p;
-    root::ceil_div(end + ring + rib, 1000000000)
+// What the gasket's ring and its rib press on. The bounds are wider than the limits: with them the products fit.
+#[derive(Clone, Copy)]
+pub(crate) struct Contact {
+    // G: tenths of a mm.
+    pub g: u32,
+    // b of the ring: hundredths of a mm.
+    pub b: u64,
+    // Length of the rib, tenths of a mm, and its own b, hundredths; both 0 without one.
+    pub rib: u32,
+    pub br: u64,
+    ghost ring_bounded: { (g ≤ most_diameter) × (b ≤ most_effective_width) },
+    ghost rib_bounded: { (rib ≤ most_rib) × (br ≤ most_effective_width) },
 }
 
-// Wm2, of both.
-pub(crate) fn seating_load(g: u32, b: u64, rib: u32, br: u64, y: u32) -> u64
-    requires ring_bounded { (g ≤ most_diameter) × (b ≤ most_effective_width) × (y ≤ most_factor) }
-    requires rib_bounded { (rib ≤ most_rib) × (br ≤ most_effective_width) }
-    ensures { result ≡ seating_load_of (exact_seating_load g b rib br y) }
-{
-    let y = y as u64;
-    let ring = 314 * b * (g as u64) * y;
-    let rib = 100 * br * (rib as u64) * y;
-    root::ceil_div(ring + rib, 100000)
-}
+impl Contact {
+    // Wm1.
+    #[tactic(auto, unfolding(crate::specs::Loads::operating_load_of, crate::specs::Loads::exact_operating_load))]
+    pub(crate) fn operating_load(self, m: u32, pressure: u32) -> u64
+        requires { (m ≤ most_factor) × (pressure ≤ most_pressure) }
+        ensures { result ≡ operating_load_of (exact_operating_load self.g self.b self.rib self.br m pressure) }
+    {
+        let g = u64::from(self.g);
+        let m = u64::from(m);
+        let p = u64::from(pressure);
+        let end = 78500 * (g * g) * p;
+        let ring = 628 * self.b * g * m * p;
+        let rib = 200 * self.br * u64::from(self.rib) * m * p;
+        root::ceil_div(end + ring + rib, 1000000000)
+    }
 
-// W, of Wm1, Wm2, A and the bolt stresses.
-pub(crate) fn flange_load(operating: u64, seating: u64, area: u64, sa: u32, sb: u32) -> u64
-    requires { BoltsBounded operating seating area sa sb }
-    ensures { result ≡ flange_load_of operating seating area sa sb }
-{
-    let sa = sa as u64;
-    let sb = sb as u64;
-    let gasket = greater(operating * sa, seating * sb);
-    root::ceil_div(gasket + area * sa * sb, 2 * sb)
+    // Wm2.
+    #[tactic(auto, unfolding(crate::specs::Loads::seating_load_of, crate::specs::Loads::exact_seating_load))]
+    pub(crate) fn seating_load(self, y: u32) -> u64
+        requires { y ≤ most_factor }
+        ensures { result ≡ seating_load_of (exact_seating_load self.g self.b self.rib self.br y) }
+    {
+        let y = u64::from(y);
+        let ring = 314 * self.b * u64::from(self.g) * y;
+        let rib = 100 * self.br * u64::from(self.rib) * y;
+        root::ceil_div(ring + rib, 100000)
+    }
 }

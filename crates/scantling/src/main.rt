@@ -16,6 +16,8 @@ fn report_of(text: &[u8], out: &mut [u8]) -> usize
     write_report(text, out)
 }
 
+// By the kit's `io`: it fills the array in one call. std's readers would take a loop of ours for that, and assume one more
+// of C's functions (errno) than read and write.
 fn main() {
     let mut input = [0u8; 4096];
     let size = io::read_full(0, &mut input);

@@ -3,18 +3,10 @@
 use Prim.Native.Nat.{ℕ}
 use mathlib.Core.Path.{◌≡◌, refl}
 use native.Mathlib.Omega.{arith}
-use Rattle.rules.specs.Answer.{cause_of, figure_of, report_of}
-use Rattle.rules.specs.declared.Answer.{Answer}
-use Rattle.rules.specs.declared.Answer.TheVariants.{Refused}
-use Rattle.sheet.specs.Sheet.{Sheet, malformed, answered}
-use Rattle.sheet.specs.Sheet.{sheet_cause, sheet_figure, sheet_report}
-use Rattle.sheet.specs.Exact.{AnswerExact}
-
-abbrev pub Answered : Sheet → Answer → Type 0
-Answered sheet r =
-    (r ≡ answered sheet)
-    × (((cause_of r ≡ sheet_cause sheet) × (figure_of r ≡ sheet_figure sheet) × (report_of r ≡ sheet_report sheet))
-    × AnswerExact sheet r)
+use Rattle.rules.specs.Answer.{Answer}
+use Rattle.rules.specs.Answer.{Refused}
+use Rattle.sheet.specs.Sheet.{Sheet, malformed}
+use Rattle.sheet.specs.Exact.{Answered}
 
 -- a sheet at fault: cause 1 with the line
 pub malformed_answered : {r : Answer} (line : ℕ) → r ≡ Refused 1 line → Answered (malformed line) r

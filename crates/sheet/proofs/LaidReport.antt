@@ -4,18 +4,18 @@ use mathlib.Core.List.{List}
 use mathlib.Core.Path.{◌≡◌, refl, ◌∙◌}
 use borrow.Author.Tests.{le-leb, lt-leb}
 use lib.ListN.{length}
-use Rattle.rules.specs.Answer.{cause_of as answer_cause, figure_of as answer_figure, report_of}
-use Rattle.rules.specs.declared.Answer.{Answer}
-use Rattle.rules.specs.declared.Answer.TheVariants.{Endplate, BlindFlange, Refused}
+use Rattle.std.specs.Prelude.{Ok}
+use Rattle.rules.specs.Answer.{cause_of as answer_cause, figure_of as answer_figure, report_of, in_numbers}
+use Rattle.rules.specs.Answer.{Answer}
+use Rattle.rules.specs.Answer.{Endplate, BlindFlange, Refused}
 use Rattle.report.specs.Report.{report_text}
 use Rattle.report.specs.Space.{laid}
 use Rattle.sheet.specs.Sheet.{sheet_of, answer_of, sheet_report}
 use Rattle.sheet.specs.Outcome.{written, outcome_of, space_of, cause_for, figure_for, length_for}
-use Rattle.sheet.specs.Outcome.{cause_of, figure_of, length_of}
-use Rattle.sheet.specs.Exact.{SheetExact}
-use Rattle.sheet.specs.declared.Outcome.{Outcome}
-use Rattle.sheet.specs.declared.Outcome.TheVariants.{ShortSpace}
-use Rattle.sheet.proofs.Answered.{Answered}
+use Rattle.sheet.specs.Outcome.{Outcome, Report, ShortSpace, cause_of, figure_of, length_of}
+use Rattle.sheet.specs.Exact.{SheetExact, Answered}
+use Rattle.rules.specs.declared.Size.{Size}
+use Rattle.rules.specs.declared.Size.TheVariants as sizes
 use Rattle.sheet.proofs.PrintedExact.{report_exact}
 
 -- the answer is that to the text, and n and d' are its report's length and the space after it was laid
@@ -65,3 +65,8 @@ module _ {text d d' : List ℕ} {answer : Answer} {n : ℕ} (l : Laid text d ans
       let w = written_numbers a n in
       rw (← known, ← l.size, le-leb n (length d) h, ← numbers.0, ← numbers.1, e)
       (refl, (w.0, w.1, w.2, rw e at numbers.2))
+
+  -- a part that is sized has its report written, whichever part it is
+  pub sized_told : (size : Size) → answer ≡ in_numbers (Ok size) → n ≤ length d → OutcomeTold text d (Report n)
+  sized_told (sizes.Endplate f plate) e h = written_told e h
+  sized_told (sizes.BlindFlange f plate) e h = written_told e h

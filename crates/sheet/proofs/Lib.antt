@@ -1,5 +1,6 @@
 -- Laws that the proofs of the functions cite.
-mod HandedBack
 mod Answered
 mod PrintedExact
 mod LaidReport
+mod Read
+mod NamedPart

@@ -6,8 +6,8 @@ use Rattle.rules.specs.Answer.{Accepted}
 use Rattle.rules.specs.Exact.{EndplateSized, BlindFlangeSized}
 use Rattle.limits.specs.declared.EndplateSheet.{EndplateSheet}
 use Rattle.limits.specs.declared.BlindFlangeSheet.{BlindFlangeSheet}
-use Rattle.rules.specs.declared.Answer.{Answer}
-use Rattle.rules.specs.declared.Answer.TheVariants.{Endplate, BlindFlange, Refused}
+use Rattle.rules.specs.Answer.{Answer}
+use Rattle.rules.specs.Answer.{Endplate, BlindFlange, Refused}
 use Rattle.report.specs.Report.{report_text}
 use Rattle.report.specs.Laws.ReadBack.{report_shows}
 use Rattle.sheet.specs.Sheet.{Sheet, malformed, endplate, blind_flange}

@@ -1,12 +1,26 @@
 -- What a call with a text and a lent space answers, document 01's numbers for it, and what the space holds then.
 use Rattle.std.specs.Prelude.{ℕ, Bool, cond, List, leb, length}
-use Rattle.rules.specs.declared.Answer.{Answer}
-use Rattle.rules.specs.declared.Answer.TheVariants.{Endplate, BlindFlange, Refused as Answer-as-Refused}
+use Rattle.rules.specs.Answer.{Answer}
+use Rattle.rules.specs.Answer.{Endplate, BlindFlange, Refused as Answer-as-Refused}
 use Rattle.report.specs.Report.{report_text}
 use Rattle.report.specs.Space.{laid}
 use Rattle.sheet.specs.Sheet.{sheet_of, answer_of, sheet_cause, sheet_figure}
-use Rattle.sheet.specs.declared.Outcome.{Outcome}
-use Rattle.sheet.specs.declared.Outcome.TheVariants.{Report, Refused, ShortSpace}
+use Rattle.limits.specs.Cause.{number_of}
+use Rattle.sheet.specs.declared.Outcome.{Outcome as Returned}
+use Rattle.sheet.specs.declared.Outcome.TheVariants as returned
+
+-- what a call answers, in document 01's numbers: an accepted sheet's report, a cause with its figure, or a space too short;
+-- the length is that of the report
+pub data Outcome : Type 0 where
+  Report : ℕ → Outcome
+  Refused : ℕ → ℕ → ℕ → Outcome
+  ShortSpace : ℕ → Outcome
+
+-- what is returned
+abbrev pub in_numbers : Returned → Outcome
+in_numbers (returned.Report n) = Report n
+in_numbers (returned.Refused r n) = Refused (number_of r.cause) r.figure n
+in_numbers (returned.ShortSpace n) = ShortSpace n
 
 -- the report that results, written or not, and its length
 abbrev pub report_for : List ℕ → List ℕ

@@ -1,12 +1,14 @@
 -- What a sheet says: the numbers of an endplate or of a blind flange, with the plates; and its answer.
-use Rattle.std.specs.Prelude.{ℕ, Bool, true, false, cond, ◌&&◌, List, []}
+use Rattle.std.specs.Prelude.{ℕ, Bool, true, false, cond, ◌&&◌, List, [], Option, Some, None}
 use Rattle.rules.specs.Answer.{endplate_answer, blind_flange_answer}
 use Rattle.rules.specs.Numbers.{endplate_cause, endplate_figure, endplate_report}
 use Rattle.rules.specs.Numbers.{blind_flange_cause, blind_flange_figure, blind_flange_report}
 use Rattle.limits.specs.declared.EndplateSheet.{EndplateSheet}
 use Rattle.limits.specs.declared.BlindFlangeSheet.{BlindFlangeSheet}
-use Rattle.rules.specs.declared.Answer.{Answer}
-use Rattle.rules.specs.declared.Answer.TheVariants.{Refused}
+use Rattle.rules.specs.Answer.{Answer}
+use Rattle.rules.specs.Answer.{Refused}
+use Rattle.sheet.specs.declared.answers.Part.{Part}
+use Rattle.sheet.specs.declared.answers.Part.TheVariants.{Endplate, BlindFlange}
 use Rattle.text.specs.Ascii.{ascii, line_feed}
 use Rattle.text.specs.Line.{same, is_line, value_of, after}
 use Rattle.lines.specs.Fields.{endplate_fields, blind_flange_fields, fields_of, number_named}
@@ -60,6 +62,14 @@ abbrev pub read : Bool → Lines → Sheet
 read blind (fault k) = malformed k
 read true (given v plates) = blind_flange (blind_flange_sheet v) plates
 read false (given v plates) = endplate (endplate_sheet v) plates
+
+-- the part that the first line names
+abbrev pub named_part : List ℕ → Option Part
+named_part text =
+    let key = ascii "part" in
+    let word = value_of key text in
+    let named = cond (same (ascii "end") word) (Some Endplate) (cond (same (ascii "blind") word) (Some BlindFlange) None) in
+    cond (is_line key text) named None
 
 -- the first line is part= and this word
 abbrev pub is_part : List ℕ → List ℕ → Bool

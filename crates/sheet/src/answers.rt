@@ -1,97 +1,125 @@
 // The answer to a sheet: cause 1 with the line at fault, or what the rules say of its numbers.
-ghost use Rattle.std.specs.Prelude.{◌≡◌};
-ghost use Rattle.rules.specs.Answer.{cause_of, figure_of, report_of};
-ghost use Rattle.sheet.specs.Sheet.{endplate_sheet, blind_flange_sheet, is_part, part_of, sheet_of, answered};
+ghost use Rattle.std.specs.Prelude.{◌≡◌, true, false};
+ghost use Rattle.limits.specs.declared.cause.Cause.TheVariants.{Malformed as Cause-as-Malformed};
+ghost use Rattle.rules.specs.Answer.{cause_of, figure_of, report_of, in_numbers};
+ghost use Rattle.sheet.specs.Sheet.{named_part, read, sheet_of};
 ghost use Rattle.sheet.specs.Sheet.{answer_of, sheet_cause, sheet_figure, sheet_report};
-ghost use Rattle.sheet.specs.Exact.{AnswerExact};
+ghost use Rattle.sheet.specs.Exact.{AnswerExact, Answered};
+ghost use Rattle.lines.specs.Fields.{fields_of};
+ghost use Rattle.lines.specs.Lines.{lines_of};
 
-use lines::{MOST_FIELDS, blind_flange, endplate, read_lines};
-use rules::{Answer, BlindFlangeSheet, EndplateSheet};
-use text::{is_line, is_word, next_line, value};
+use lines::{Malformed, blind_flange, endplate, read_lines};
+use rules::{Answer, BlindFlangeSheet, Cause, EndplateSheet, Refusal};
+use text::{line_value, next_line};
 
-const MALFORMED: u32 = 1;
-
-fn endplate_sheet(v: [u32; MOST_FIELDS]) -> EndplateSheet
-    ensures { result ≡ endplate_sheet v }
+// Cause 1, with the number of the line at fault.
+fn refused(malformed: Malformed) -> Refusal
+    ensures { result ≡ record { cause = Cause-as-Malformed; figure = malformed.line } }
 {
-    EndplateSheet {
-        form: v[endplate::FORM],
-        material: v[endplate::MATERIAL],
-        shell: v[endplate::SHELL],
-        temperature: v[endplate::TEMPERATURE],
-        pressure: v[endplate::PRESSURE],
-        diameter: v[endplate::DIAMETER],
-        allowance: v[endplate::ALLOWANCE],
+    Refusal {
+        cause: Cause::Malformed,
+        figure: malformed.line as u64,
     }
 }
 
-fn blind_flange_sheet(v: [u32; MOST_FIELDS]) -> BlindFlangeSheet
-    ensures { result ≡ blind_flange_sheet v }
+// The answer to the lines of an endplate after the first.
+fn endplate_answer(lines: &[u8]) -> Answer
+    ensures { Answered (read false (lines_of 2 (fields_of false) lines.now)) (in_numbers result) }
 {
-    BlindFlangeSheet {
-        material: v[blind_flange::MATERIAL],
-        temperature: v[blind_flange::TEMPERATURE],
-        pressure: v[blind_flange::PRESSURE],
-        allowance: v[blind_flange::ALLOWANCE],
-        od: v[blind_flange::OD],
-        width: v[blind_flange::WIDTH],
-        rib: v[blind_flange::RIB],
-        rib_width: v[blind_flange::RIB_WIDTH],
-        m: v[blind_flange::M],
-        y: v[blind_flange::Y],
-        circle: v[blind_flange::CIRCLE],
-        bolt: v[blind_flange::BOLT],
-        root: v[blind_flange::ROOT],
-        count: v[blind_flange::COUNT],
-        sa: v[blind_flange::SA],
-        sb: v[blind_flange::SB],
-    }
+    let read = read_lines(lines, &endplate::FIELDS).map_err(refused)?;
+    let [
+        form,
+        material,
+        shell,
+        temperature,
+        pressure,
+        diameter,
+        allowance,
+    ] = read.values;
+    let sheet = EndplateSheet {
+        form,
+        material,
+        shell,
+        temperature,
+        pressure,
+        diameter,
+        allowance,
+    };
+    rules::endplate(sheet, read.plates.as_slice())
 }
 
-// Whether the first line is part= and this word.
-fn is_part(text: &[u8], word: &[u8]) -> bool
-    ensures { result ≡ is_part word.now text.now }
+// The same of a blind flange.
+fn blind_flange_answer(lines: &[u8]) -> Answer
+    ensures { Answered (read true (lines_of 2 (fields_of true) lines.now)) (in_numbers result) }
 {
-    is_line(text, b"part") & is_word(value(text, b"part"), word)
+    let read = read_lines(lines, &blind_flange::FIELDS).map_err(refused)?;
+    let [
+        material,
+        temperature,
+        pressure,
+        allowance,
+        od,
+        width,
+        rib,
+        rib_width,
+        m,
+        y,
+        circle,
+        bolt,
+        root,
+        count,
+        sa,
+        sb,
+    ] = read.values;
+    let sheet = BlindFlangeSheet {
+        material,
+        temperature,
+        pressure,
+        allowance,
+        od,
+        width,
+        rib,
+        rib_width,
+        m,
+        y,
+        circle,
+        bolt,
+        root,
+        count,
+        sa,
+        sb,
+    };
+    rules::blind_flange(sheet, read.plates.as_slice())
 }
 
-// The answer to a sheet of a blind flange, or else of an endplate, by its lines from the second on.
-fn part_answer(text: &[u8], blind: bool) -> Answer
-    ensures value { result ≡ answered (part_of blind text.now) }
-    ensures numbers { let s = part_of blind text.now in
-        (cause_of result ≡ sheet_cause s) × (figure_of result ≡ sheet_figure s) × (report_of result ≡ sheet_report s) }
-    ensures exact { AnswerExact (part_of blind text.now) result }
+// The part that a sheet is of.
+#[derive(Clone, Copy)]
+enum Part {
+    Endplate,
+    BlindFlange,
+}
+
+// The part that the first line names.
+fn named_part(text: &[u8]) -> Option<Part>
+    ensures { result ≡ named_part text.now }
 {
-    let lines = read_lines(next_line(text), blind);
-    if !lines.ok {
-        return Answer::Refused {
-            cause: MALFORMED,
-            figure: lines.fault as u64,
-        };
+    match line_value(text, b"part")? {
+        b"end" => Some(Part::Endplate),
+        b"blind" => Some(Part::BlindFlange),
+        _ => None,
     }
-    let values = lines.values;
-    let plates = lines.plates;
-    let count = lines.count;
-    if blind {
-        return rules::blind_flange(blind_flange_sheet(values), &plates[..count]);
-    }
-    rules::endplate(endplate_sheet(values), &plates[..count])
 }
 
 pub(crate) fn answer_to(text: &[u8]) -> Answer
-    ensures value { result ≡ answer_of text.now }
+    ensures value { in_numbers result ≡ answer_of text.now }
     ensures numbers { let s = sheet_of text.now in
-        (cause_of result ≡ sheet_cause s) × (figure_of result ≡ sheet_figure s) × (report_of result ≡ sheet_report s) }
-    ensures exact { AnswerExact (sheet_of text.now) result }
+        let answer = in_numbers result in
+        (cause_of answer ≡ sheet_cause s) × (figure_of answer ≡ sheet_figure s) × (report_of answer ≡ sheet_report s) }
+    ensures exact { AnswerExact (sheet_of text.now) (in_numbers result) }
 {
-    if is_part(text, b"end") {
-        return part_answer(text, false);
-    }
-    if is_part(text, b"blind") {
-        return part_answer(text, true);
-    }
-    Answer::Refused {
-        cause: MALFORMED,
-        figure: 1,
+    match named_part(text) {
+        Some(Part::Endplate) => endplate_answer(next_line(text)),
+        Some(Part::BlindFlange) => blind_flange_answer(next_line(text)),
+        None => Err(refused(Malformed { line: 1 })),
     }
 }

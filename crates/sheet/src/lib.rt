@@ -7,44 +7,50 @@ ghost use Rattle.std.specs.Prelude.{◌≤◌, ◌≡◌};
 ghost use Rattle.rules.specs.Answer.{report_of};
 ghost use Rattle.report.specs.Report.{longest};
 ghost use Rattle.sheet.specs.Sheet.{sheet_of, answer_of, sheet_report};
-ghost use Rattle.sheet.specs.Outcome.{outcome_of, space_of, cause_of, figure_of, length_of};
+ghost use Rattle.sheet.specs.Outcome.{in_numbers, outcome_of, space_of, cause_of, figure_of, length_of};
 ghost use Rattle.sheet.specs.Outcome.{cause_for, figure_for, length_for};
 ghost use Rattle.sheet.specs.Exact.{SheetExact};
 
 use answers::answer_to;
-use rules::Answer;
+use rules::Refusal;
 
 // What became of a sheet; `length` is that of its report.
 #[derive(Clone, Copy)]
 pub enum Outcome {
     // The report of an accepted sheet is written.
-    Report {
-        length: usize,
-    },
-    // Causes 1 to 14 and 17: the report of two lines is written. The figure is the line of 1, the total of 14, else 0.
-    Refused {
-        cause: u32,
-        figure: u64,
-        length: usize,
-    },
+    Report { length: usize },
+    // Causes 1 to 14 and 17: the report of two lines is written.
+    Refused { refusal: Refusal, length: usize },
     // Cause 15: the space is shorter than the report, and as it was. The figure is the length needed.
-    ShortSpace {
-        length: usize,
-    },
+    ShortSpace { length: usize },
+}
+
+impl Outcome {
+    // The length of the report that results, whether it was written or not.
+    pub fn length(self) -> usize
+        ensures { result ≡ length_of (in_numbers self) }
+    {
+        match self {
+            Outcome::Report { length } => length,
+            Outcome::Refused { refusal: _, length } => length,
+            Outcome::ShortSpace { length } => length,
+        }
+    }
 }
 
 // Answers the sheet in `text`, and writes its report to the front of `out`.
 pub fn answer(text: &[u8], out: &mut [u8]) -> Outcome
-    ensures value { result ≡ outcome_of text.now out.old }
+    ensures value { in_numbers result ≡ outcome_of text.now out.old }
     ensures numbers { let t = text.now in
         let d = out.old in
-        (cause_of result ≡ cause_for t d)
-        × (figure_of result ≡ figure_for t d)
-        × (length_of result ≡ length_for t)
+        let outcome = in_numbers result in
+        (cause_of outcome ≡ cause_for t d)
+        × (figure_of outcome ≡ figure_for t d)
+        × (length_of outcome ≡ length_for t)
         × (report_of (answer_of t) ≡ sheet_report (sheet_of t)) }
     ensures content { out.new ≡ space_of text.now out.old }
     ensures exact { SheetExact text.now }
-    ensures short { length_of result ≤ longest }
+    ensures short { length_of (in_numbers result) ≤ longest }
 {
     let answer = answer_to(text);
     let length = report::write(answer, out, 0);
@@ -52,34 +58,8 @@ pub fn answer(text: &[u8], out: &mut [u8]) -> Outcome
         return Outcome::ShortSpace { length };
     }
     match answer {
-        Answer::Endplate {
-            figures: _,
-            plate: _,
-        } => Outcome::Report { length },
-        Answer::BlindFlange {
-            figures: _,
-            plate: _,
-        } => Outcome::Report { length },
-        Answer::Refused { cause, figure } => Outcome::Refused {
-            cause,
-            figure,
-            length,
-        },
-    }
-}
-
-// The length of the report that results, whether it was written or not.
-fn length_of(outcome: Outcome) -> usize
-    ensures { result ≡ length_of outcome }
-{
-    match outcome {
-        Outcome::Report { length } => length,
-        Outcome::Refused {
-            cause: _,
-            figure: _,
-            length,
-        } => length,
-        Outcome::ShortSpace { length } => length,
+        Ok(_) => Outcome::Report { length },
+        Err(refusal) => Outcome::Refused { refusal, length },
     }
 }
 
@@ -91,6 +71,5 @@ pub fn write_report(text: &[u8], out: &mut [u8]) -> usize
     ensures exact { SheetExact text.now }
     ensures short { result ≤ longest }
 {
-    let outcome = answer(text, out);
-    length_of(outcome)
+    answer(text, out).length()
 }

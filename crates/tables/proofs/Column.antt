@@ -1,19 +1,17 @@
--- The search for a column, a step at a time: what is left from place i on. Assumes nothing.
-use Prim.Native.Nat.{ℕ, ◌+◌, ◌<◌, ◌≤◌}
-use mathlib.Core.Path.{◌≡◌}
-use mathlib.Core.List.{List}
-use native.Mathlib.Numerals.{add-one}
-use borrow.Author.Tests.{le-leb, lt-leb}
-use lib.ListN.{length, get_or, drop, drop_of_length-le}
-use lib.Seq.{drop-cons}
-use Rattle.tables.specs.DesignStress.{first_not_below}
+-- The column that the search of the limits answers. Assumes nothing.
+use Rattle.std.proofs.Common.{ℕ, ◌<◌, ◌≡◌, Some, None, leb, refl, arith}
+use Rattle.std.specs.List.{position, position_or_len}
+use Rattle.std.proofs.lemmas.List.Recursion.{is_position_or_len}
+use Rattle.std.proofs.lemmas.Bool.Decides.{nat_tests}
+use Rattle.tables.specs.DesignStress.{column, column_limits, first_not_below}
 
-module _ (t i : ℕ) (ls : List ℕ) where
-  pub here : i < length ls → t ≤ get_or ls i 0 → first_not_below t (drop i ls) ≡ 0
-  here p q = rw (drop-cons ls i 0 p) (simp (le-leb t (get_or ls i 0) q))
+module _ (t : ℕ) where
+  searched : column t ≡ position_or_len (leb t) column_limits
+  unfolding column
+  searched = is_position_or_len (first_not_below t) (leb t) refl (λ l ls. grind (arith, nat_tests)) column_limits
 
-  pub later : i < length ls → get_or ls i 0 < t → first_not_below t (drop i ls) ≡ first_not_below t (drop (i + 1) ls) + 1
-  later p q = rw (drop-cons ls i 0 p) (simp (lt-leb t (get_or ls i 0) q, add-one))
+  pub found : (i : ℕ) → position (leb t) column_limits ≡ Some i → column t ≡ i
+  found i e = grind (arith, nat_tests, searched)
 
-  pub nowhere : length ls ≤ i → first_not_below t (drop i ls) ≡ 0
-  nowhere p = rw (drop_of_length-le ls p)
+  pub nowhere : position (leb t) column_limits ≡ None → 8 < column t
+  nowhere e = grind (arith, nat_tests, searched)

@@ -1,3 +1,3 @@
--- Laws: for callers. Column: what the proof of column_at uses.
+-- Laws: for callers. Column: what the proof of design_stress uses.
 pub mod Laws
 mod Column

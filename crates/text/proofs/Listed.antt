@@ -1,81 +1,83 @@
--- A plate list, number by number. Assumes nothing.
-use Prim.Native.Nat.{ℕ, suc, ◌+◌, ◌-◌, ◌≤◌, ◌<◌}
-use mathlib.Core.Bool.{true, false}
-use mathlib.Core.List.{List, [], ◌∷◌, ◌++◌, append_assoc}
-use mathlib.Core.Option.{Option, none, some}
-use mathlib.Core.Path.{◌≡◌, refl, sym, ap}
-use native.Mathlib.Numerals.{add-one}
-use native.Mathlib.Omega.{arith}
-use lib.ListN.{length, take, drop, set, replicate}
-use lib.Seq.{take-suc-set, length-take-le}
+-- A plate list, part by part. Assumes nothing.
+use Rattle.std.proofs.Common.{ℕ, zero, suc, ◌+◌, ◌-◌, ◌≤◌, ◌<◌, Bool, true, false, cond, eqb, List, [], ◌∷◌, ◌++◌, ◌≡◌, refl, sym, ap, length, drop, get_or, arith, add-one, append_assoc, append-nil, drop-cons, drop_of_length-le, take_all, ltb-false, ltb-true}
+use Rattle.std.specs.Prelude.{Option, Some, None}
+use Rattle.std.specs.List.{slice_split, position_or_len}
+use Rattle.std.proofs.lemmas.List.Elements.{All-from_get_or}
+use Rattle.std.proofs.lemmas.List.Splits.{slice_split_first, slice_split_none}
+use Rattle.std.proofs.lemmas.List.Sums.{fails_before_first}
 use Rattle.text.specs.Ascii.{comma}
+use Rattle.text.specs.Index.{index_of}
 use Rattle.text.specs.Line.{contains, before, after}
 use Rattle.text.specs.Number.{number_of}
-use Rattle.text.specs.Plates.{most_plates, number_before, numbers_listed, plates_held}
-use Rattle.text.specs.Laws.Padded.{zeros_fill}
-use Rattle.text.specs.declared.number.Number.TheVariants.{Value, Malformed}
+use Rattle.text.specs.Plates.{number_before, numbers_listed}
+use Rattle.text.proofs.Parts.{index_is}
+
+abbrev pub is_comma : ℕ → Bool
+is_comma b = eqb b comma
+
+-- the first part, and those after it where there is a comma
+parts_is : (t : List ℕ) → slice_split is_comma t ≡ before comma t ∷ cond (contains comma t) (slice_split is_comma (after comma t)) []
+unfolding before after
+parts_is t = go (contains comma t) refl
+  where
+    go : (found : Bool) → contains comma t ≡ found
+        → slice_split is_comma t ≡ before comma t ∷ cond found (slice_split is_comma (after comma t)) []
+    go true e =
+        rw (index_is comma t)
+        (slice_split_first is_comma t 0 (omega (arith, ltb-true _ _ e, index_is comma t)))
+    go false e =
+        let past : length t ≤ position_or_len is_comma t = omega (arith, ltb-false _ _ e, index_is comma t) in
+        rw (take_all (index_of comma t) t (ltb-false _ _ e))
+        (slice_split_none is_comma t (All-from_get_or (λ b. is_comma b ≡ false) t 0 (λ k h. fails_before_first is_comma t k 0 (omega arith))))
+
+-- at most k parts, each a number
+abbrev pub numbers_in : ℕ → List (List ℕ) → Option (List ℕ)
+numbers_in k [] = Some []
+numbers_in zero (part ∷ parts) = None
+numbers_in (suc k) (part ∷ parts) = number_before (number_of part) (numbers_in k parts)
+
+pub numbers_listed_is : (k : ℕ) (t : List ℕ) → numbers_listed k t ≡ numbers_in k (slice_split is_comma t)
+unfolding numbers_listed
+numbers_listed_is zero t = rw (parts_is t)
+numbers_listed_is (suc k) t = rw (parts_is t, numbers_listed_is k (after comma t)) (ap (number_before (number_of (before comma t))) (go (contains comma t)))
+  where
+    go : (found : Bool) → let rest = slice_split is_comma (after comma t) in
+        cond found (numbers_in k rest) (Some []) ≡ numbers_in k (cond found rest [])
+    go true = refl
+    go false = refl
 
 -- a list read so far, before what the rest is read as
 abbrev pub prepend_list : List ℕ → Option (List ℕ) → Option (List ℕ)
-prepend_list xs none = none
-prepend_list xs (some ys) = some (xs ++ ys)
-
-prepend_list_number : (xs : List ℕ) (x : ℕ) (o : Option (List ℕ))
-    → prepend_list xs (number_before (Value x) o) ≡ prepend_list (xs ++ x ∷ []) o
-prepend_list_number xs x none = refl
-prepend_list_number xs x (some ys) = ap some (sym (append_assoc xs (x ∷ []) ys))
+prepend_list xs None = None
+prepend_list xs (Some ys) = Some (xs ++ ys)
 
 pub prepend_list_nothing : (o : Option (List ℕ)) → o ≡ prepend_list [] o
-prepend_list_nothing none = refl
-prepend_list_nothing (some ys) = refl
+prepend_list_nothing None = refl
+prepend_list_nothing (Some ys) = refl
 
--- ---- the text
+prepend_list_number : (xs : List ℕ) (x : ℕ) (o : Option (List ℕ))
+    → prepend_list xs (number_before (Some x) o) ≡ prepend_list (xs ++ x ∷ []) o
+prepend_list_number xs x None = refl
+prepend_list_number xs x (Some ys) = ap Some (sym (append_assoc xs (x ∷ []) ys))
 
-pub numbers_over : (t : List ℕ) (k : ℕ) → k ≡ 0 → numbers_listed k t ≡ none
-unfolding numbers_listed
-numbers_over t k e = rw e
+-- the parts from the n-th on, with the part that is there
+module _ (ps : List (List ℕ)) (n : ℕ) (part : List ℕ) (h : (n < length ps) × (part ≡ get_or ps n part)) where
+  part_here : drop n ps ≡ part ∷ drop (n + 1) ps
+  part_here = rw (drop-cons ps n part h.0, ← h.1, add-one)
 
-module _ (t : List ℕ) (c : ℕ) (h : c < most_plates) where
-  one_more : most_plates - c ≡ suc (most_plates - (c + 1))
-  one_more = omega arith
+  pub numbers_full : (k : ℕ) → k ≡ 0 → numbers_in k (drop n ps) ≡ None
+  numbers_full k e = rw (part_here, e)
 
-  pub numbers_malformed : number_of (before comma t) ≡ Malformed → numbers_listed (most_plates - c) t ≡ none
-  unfolding numbers_listed
-  numbers_malformed e = rw (one_more, e)
+  pub numbers_malformed : (k : ℕ) → number_of part ≡ None → numbers_in k (drop n ps) ≡ None
+  numbers_malformed zero e = numbers_full zero refl
+  numbers_malformed (suc k) e = rw (part_here, e)
 
-  module _ (x : ℕ) (e : number_of (before comma t) ≡ Value x) where
-    pub numbers_last : contains comma t ≡ false → numbers_listed (most_plates - c) t ≡ some (x ∷ [])
-    unfolding numbers_listed
-    numbers_last n = rw (one_more, e, n)
+  -- a number more in the list, and the rest of the parts
+  pub numbers_more : (k : ℕ) (xs : List ℕ) (x : ℕ) → number_of part ≡ Some x → n < k
+      → prepend_list xs (numbers_in (k - n) (drop n ps)) ≡ prepend_list (xs ++ x ∷ []) (numbers_in (k - (n + 1)) (drop (n + 1) ps))
+  numbers_more k xs x e l =
+      let one_more : k - n ≡ suc (k - (n + 1)) = omega arith in
+      rw (part_here, one_more, e) (prepend_list_number xs x (numbers_in (k - (n + 1)) (drop (n + 1) ps)))
 
-    numbers_more : contains comma t ≡ true
-        → numbers_listed (most_plates - c) t ≡ number_before (Value x) (numbers_listed (most_plates - (c + 1)) (after comma t))
-    unfolding numbers_listed
-    numbers_more m = rw (one_more, e, m)
-
-    grown : (l : List ℕ) → c < length l → take (c + 1) (set l c x) ≡ take c l ++ x ∷ []
-    grown l g = rw add-one (take-suc-set l c x g)
-
-    -- a number more in the list, and the rest of the text
-    pub listed_more : (l : List ℕ) → c < length l → contains comma t ≡ true
-        → prepend_list (take c l) (numbers_listed (most_plates - c) t)
-        ≡ prepend_list (take (c + 1) (set l c x)) (numbers_listed (most_plates - (c + 1)) (after comma t))
-    listed_more l g m =
-        rw (numbers_more m, grown l g) (prepend_list_number (take c l) x (numbers_listed (most_plates - (c + 1)) (after comma t)))
-
-    -- the last number
-    pub listed_last : (l : List ℕ) → c < length l → contains comma t ≡ false
-        → prepend_list (take c l) (numbers_listed (most_plates - c) t) ≡ some (take (c + 1) (set l c x))
-    listed_last l g n = rw (numbers_last n, grown l g)
-
--- ---- how a list is handed back
-
-pub plates_held-some : (l : List ℕ) (c : ℕ) → c ≤ most_plates → length l ≡ most_plates → drop c l ≡ replicate (most_plates - c) 0
-    → record { ok = true; count = c; list = l } ≡ plates_held (some (take c l))
-plates_held-some l c h e z =
-    rw (← zeros_fill most_plates l c (omega arith) z, length-take-le c l (omega arith))
-
--- no list where the rest of the text is none
-pub plates_held-none : (xs : List ℕ) {all o : Option (List ℕ)} → all ≡ prepend_list xs o → o ≡ none
-    → plates_held none ≡ plates_held all
-plates_held-none xs e n = rw (e, n)
+pub numbers_end : (ps : List (List ℕ)) (n k : ℕ) (xs : List ℕ) → n ≡ length ps → prepend_list xs (numbers_in k (drop n ps)) ≡ Some xs
+numbers_end ps n k xs e = rw (drop_of_length-le ps {i = n} (omega arith), append-nil xs)

@@ -5,6 +5,6 @@ mod line;
 mod number;
 mod plate_list;
 
-pub use line::{is_line, is_word, next_line, value};
-pub use number::{Number, read_number};
-pub use plate_list::{Plates, malformed_plates, read_plates};
+pub use line::{line_value, next_line};
+pub use number::read_number;
+pub use plate_list::{MOST_PLATES, read_plates};

@@ -1,85 +1,38 @@
 // A line: key, `=`, value, one LF.
-ghost use Rattle.std.specs.Prelude.{◌≡◌, ◌≤◌, length};
+ghost use Rattle.std.specs.Prelude.{◌≡◌};
+ghost use Rattle.std.specs.Option.{option_copied};
 ghost use Rattle.text.specs.Ascii.{line_feed};
-ghost use Rattle.text.specs.Index.{index_of};
-ghost use Rattle.text.specs.Line.{contains, before, after, same, is_line, value_of};
+ghost use Rattle.text.specs.Line.{first, after, line_value};
 
 const LINE_FEED: u8 = b'\n';
 
 const EQUALS: u8 = b'=';
 
-// Where the first byte b of t is, or the length of t.
-fn first(t: &[u8], b: u8) -> usize
-    ensures { (result ≡ index_of b t.now) × (result ≤ length t.now) }
+// Where the first byte b of t is.
+fn first(t: &[u8], b: u8) -> Option<usize>
+    ensures { result ≡ first b t.now }
 {
-    for (i, x) in t.iter().enumerate() {
-        if *x == b {
-            return i;
-        }
-    }
-    t.len()
+    t.iter().position(|&x| x == b)
 }
 
-// Whether a byte is among those of t.
-pub(crate) fn has(t: &[u8], b: u8) -> bool
-    ensures { result ≡ contains b t.now }
+// The value of the line of this key that t begins with: the part of t between the `=` after the key and the LF.
+#[tactic(auto, unfolding(crate::specs::Line::value_of), using(crate::proofs::Parts::begins_is, crate::proofs::Parts::equals_is, crate::proofs::Parts::past_equals))]
+pub fn line_value<'a>(t: &'a [u8], key: &[u8]) -> Option<&'a [u8]>
+    ensures { option_copied result ≡ line_value key.now t.now }
 {
-    first(t, b) < t.len()
-}
-
-// What stands before the first byte b of t.
-pub(crate) fn part_before<'a>(t: &'a [u8], b: u8) -> &'a [u8]
-    ensures { result.now ≡ before b t.now }
-{
-    let end = first(t, b);
-    &t[..end]
-}
-
-// What stands after it.
-pub(crate) fn part_after<'a>(t: &'a [u8], b: u8) -> &'a [u8]
-    ensures { result.now ≡ after b t.now }
-{
-    let end = first(t, b);
-    if end < t.len() {
-        return &t[end + 1..];
-    }
-    &t[end..]
-}
-
-// Whether t begins with a line of this key.
-pub fn is_line(t: &[u8], key: &[u8]) -> bool
-    ensures { result ≡ is_line key.now t.now }
-{
-    let size = key.len();
-    if t.len() <= size {
-        return false;
-    }
-    (&t[..size] == key) & (t[size] == EQUALS) & has(t, LINE_FEED)
-}
-
-// Whether a value is this word.
-pub fn is_word(v: &[u8], word: &[u8]) -> bool
-    ensures { result ≡ same word.now v.now }
-{
-    v == word
-}
-
-// The value of the line that t begins with: the part of t between the `=` after the key and the LF.
-// Empty where no such line stands there and the first LF comes too early.
-pub fn value<'a>(t: &'a [u8], key: &[u8]) -> &'a [u8]
-    ensures { result.now ≡ value_of key.now t.now }
-{
-    let end = first(t, LINE_FEED);
-    let size = key.len();
-    if end <= size {
-        return &t[end..end];
-    }
-    &t[size + 1..end]
+    let end = first(t, LINE_FEED)?;
+    let value = t.strip_prefix(key)?.strip_prefix(&[EQUALS])?;
+    // Of a key with an LF in it the line ends before its value begins.
+    Some(&value[..end.saturating_sub(key.len() + 1)])
 }
 
 // What follows the first LF of t; nothing where it has none.
-pub fn next_line<'a>(t: &'a [u8]) -> &'a [u8]
+#[tactic(auto, unfolding(crate::specs::Line::after))]
+pub fn next_line(t: &[u8]) -> &[u8]
     ensures { result.now ≡ after line_feed t.now }
 {
-    part_after(t, LINE_FEED)
+    match first(t, LINE_FEED) {
+        Some(end) => &t[end + 1..],
+        None => &[],
+    }
 }

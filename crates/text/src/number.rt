@@ -2,40 +2,23 @@
 ghost use Rattle.std.specs.Prelude.{◌≡◌};
 ghost use Rattle.text.specs.Number.{number_of};
 
-#[derive(Clone, Copy)]
-pub enum Number {
-    Value(u32),
-    Malformed,
-}
-
 // The number that v spells.
-pub fn read_number(v: &[u8]) -> Number
+#[tactic(auto, unfolding(crate::specs::Number::number_of))]
+pub fn read_number(v: &[u8]) -> Option<u32>
     ensures { result ≡ number_of v.now }
 {
-    let length = v.len();
-    if length == 0 {
-        return Number::Malformed;
+    if v.is_empty() || v.len() > 6 {
+        return None;
     }
-    if 6 < length {
-        return Number::Malformed;
+    if let [b'0', _, ..] = v {
+        return None;
     }
-    if v[0] == b'0' {
-        if 1 < length {
-            return Number::Malformed;
+    let mut n = 0;
+    for &digit in v {
+        if !digit.is_ascii_digit() {
+            return None;
         }
+        n = n * 10 + u32::from(digit - b'0');
     }
-    let mut n: u32 = 0;
-    let mut i = 0;
-    while i < length {
-        let digit = v[i];
-        if digit < b'0' {
-            return Number::Malformed;
-        }
-        if b'9' < digit {
-            return Number::Malformed;
-        }
-        n = n * 10 + (digit - b'0') as u32;
-        i += 1;
-    }
-    Number::Value(n)
+    Some(n)
 }

@@ -4,7 +4,7 @@ use Rattle.capi.proofs.scantling_blind_flange.Goals as goal
 
 pub returns : goal.returns
 returns c =
-    let answer = c.blind_flange_from_bytes.ensures in
+    let answer = c.blind_flange.ensures in
     let sheet = c.blind_flange_call-sheet.ensures in
-    let placed = flange_placed _ sheet answer.value answer.exact c.figure_at.ensures in
+    let placed = flange_placed _ c.in_bytes.ensures sheet answer.value answer.exact c.figure_at.ensures in
     record { figure = placed.0; exact = placed.1 }

@@ -1,10 +1,12 @@
 -- `scantling_blind_flange_standard` meets its contract. Assumes nothing.
+use Rattle.std.proofs.Common.{◌∙◌}
+use Rattle.std.proofs.lemmas.List.{map-id}
 use Rattle.capi.proofs.ExactByPlace.{flange_placed}
 use Rattle.capi.proofs.scantling_blind_flange_standard.Goals as goal
 
 pub returns : goal.returns
 returns c =
-    let answer = c.blind_flange_standard.ensures in
+    let answer = c.blind_flange.ensures in
     let sheet = c.blind_flange_call-sheet.ensures in
-    let placed = flange_placed _ sheet answer.value answer.exact c.figure_at.ensures in
+    let placed = flange_placed _ (map-id _ ∙ c.standard_plates.ensures) sheet answer.value answer.exact c.figure_at.ensures in
     record { figure = placed.0; exact = placed.1 }

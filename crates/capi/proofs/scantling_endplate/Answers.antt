@@ -4,7 +4,7 @@ use Rattle.capi.proofs.scantling_endplate.Goals as goal
 
 pub returns : goal.returns
 returns c =
-    let answer = c.endplate_from_bytes.ensures in
+    let answer = c.endplate.ensures in
     let sheet = c.endplate_call-sheet.ensures in
-    let placed = endplate_placed _ sheet answer.value answer.exact c.figure_at.ensures in
+    let placed = endplate_placed _ c.in_bytes.ensures sheet answer.value answer.exact c.figure_at.ensures in
     record { figure = placed.0; exact = placed.1 }

@@ -1,17 +1,16 @@
 -- Lent space: where a text fits and where it does not. Assumes nothing.
 use Rattle.std.specs.Prelude.{ℕ, ◌+◌, ◌≤◌, ◌<◌, List, ◌≡◌, length, take}
-use Rattle.std.proofs.Common.{zero-add, arith, le-leb}
-use Rattle.std.proofs.lemmas.Bool.{lt-leb}
+use Rattle.std.proofs.Common.{zero-add, arith}
 use Rattle.std.proofs.Math.Seq.{take-append_seam}
 use Rattle.report.specs.Space.{written_at, laid}
 
 pub laid-fits : (at : ℕ) (s d : List ℕ) → at + length s ≤ length d → laid at s d ≡ written_at at s d
 unfolding laid
-laid-fits at s d h = simp (le-leb (at + length s) (length d) h)
+laid-fits at s d h = grind arith
 
 pub laid_not : (at : ℕ) (s d : List ℕ) → length d < at + length s → laid at s d ≡ d
 unfolding laid
-laid_not at s d h = simp (lt-leb (at + length s) (length d) h)
+laid_not at s d h = grind arith
 
 -- what fits stands at the front
 pub laid_front : (s d : List ℕ) → length s ≤ length d → take (length s) (laid 0 s d) ≡ s

@@ -1,29 +1,29 @@
 -- Any line of a report, the need's and the edge's among them, is read back by its key. Assumes nothing.
-use Rattle.std.specs.Prelude.{ℕ, suc, Bool, true, not, ◌&&◌, ◌||◌, cond, List, [], ◌∷◌, ◌≡◌, refl, eqb}
+use Rattle.std.specs.Prelude.{ℕ, Bool, true, not, ◌&&◌, ◌||◌, cond, List, [], ◌∷◌, ◌≡◌, refl, eqb}
 use Prim.Native.String.{String}
 use Rattle.std.proofs.Math.Bool.{and-eq-true_iff}
 use mathlib.Mathlib.Data.Bool.Basic.{or-eq-false-eq-eq-false-and-eq-false}
 use Rattle.std.proofs.Common.{ap, ◌∙◌}
 use Rattle.std.proofs.lemmas.Bool.{not-true}
-use Rattle.rules.specs.declared.Answer.{Answer}
-use Rattle.rules.specs.declared.Answer.TheVariants.{Endplate, BlindFlange, Refused}
+use Rattle.rules.specs.Answer.{Answer}
+use Rattle.rules.specs.Answer.{Endplate, BlindFlange, Refused}
+use Rattle.std.proofs.Common.{ap, ◌∙◌, arith}
 use Rattle.text.specs.Index.{index_of, index_after}
 use Rattle.text.specs.Ascii.{ascii, equals, line_feed}
 use Rattle.text.specs.Line.{same}
 use Rattle.report.specs.Printed.{printed_from, printed}
-use Rattle.text.specs.declared.number.Number.{Number}
-use Rattle.text.specs.declared.number.Number.TheVariants.{Value, Malformed}
+use Rattle.std.specs.Prelude.{Option, Some, None}
 use Rattle.text.specs.Laws.Joined.{Lacks}
 use Rattle.report.specs.Laws.RoundTrip.{printed_line}
 use Rattle.report.specs.Report.{keys_of, report_numbers, number_lines, report_text}
 
 -- the number beside the first key that is this one
-abbrev pub number_beside : String → List String → List ℕ → Number
-number_beside key [] ns = Malformed
-number_beside key (own ∷ keys) [] = Malformed
+abbrev pub number_beside : String → List String → List ℕ → Option ℕ
+number_beside key [] ns = None
+number_beside key (own ∷ keys) [] = None
 number_beside key (own ∷ keys) (n ∷ ns) =
     let later = number_beside key keys ns in
-    cond (same (ascii key) (ascii own)) (Value n) later
+    cond (same (ascii key) (ascii own)) (Some n) later
 
 -- neither = nor LF is among the bytes of a key
 abbrev pub plain : List ℕ → Bool
@@ -37,11 +37,7 @@ all_plain (key ∷ keys) = plain (ascii key) && all_plain keys
 plain_lacks : (key : List ℕ) → plain key ≡ true → Lacks equals key × Lacks line_feed key
 unfolding index_of index_after
 plain_lacks [] p = (refl, refl)
-plain_lacks (b ∷ key) p =
-    let both = (and-eq-true_iff _ _).0 p in
-    let other = (or-eq-false-eq-eq-false-and-eq-false (eqb b equals) (eqb b line_feed)).0 (not-true _ both.0) in
-    let rest = plain_lacks key both.1 in
-    rw (other.0, other.1) (ap suc rest.0, ap suc rest.1)
+plain_lacks (b ∷ key) p = grind (arith, plain_lacks key)
 
 lines_shown : (key : String) (keys : List String) (ns : List ℕ) → plain (ascii key) ≡ true → all_plain keys ≡ true
     → printed key (number_lines keys ns) ≡ number_beside key keys ns
@@ -52,7 +48,7 @@ lines_shown key (own ∷ keys) (n ∷ ns) p q =
     let both = (and-eq-true_iff _ _).0 q in
     let l = plain_lacks (ascii own) both.0 in
     printed_line (ascii key) (ascii own) (number_lines keys ns) n (plain_lacks (ascii key) p).0 l.0 l.1
-    ∙ ap (cond (same (ascii key) (ascii own)) (Value n)) (lines_shown key keys ns p both.1)
+    ∙ ap (cond (same (ascii key) (ascii own)) (Some n)) (lines_shown key keys ns p both.1)
 
 keys_plain : (answer : Answer) → all_plain (keys_of answer) ≡ true
 keys_plain (Endplate f plate) = refl

@@ -1,21 +1,15 @@
 -- A line that shows a number is read back as that number, whatever follows it. Assumes nothing.
-use Prim.Native.Nat.compare
-use Rattle.std.specs.Prelude.{ℕ, suc, ◌+◌, ◌-◌, Bool, true, false, cond, ◌&&◌, ◌≡◌, refl, eqb, get_or}
+use Rattle.std.specs.Prelude.{ℕ, ◌+◌, ◌-◌, Bool, true, false, cond, ◌&&◌, List, [], ◌∷◌, ◌++◌, ◌≡◌, refl, eqb, length, get_or}
+use Rattle.std.proofs.Common.{sym, ◌∙◌, arith, ne_eqb, length-append, append_assoc}
 use Rattle.std.proofs.lemmas.Bool.{false≢true}
-use Rattle.std.proofs.Math.Bool.{and-eq-true_iff, and-true, and-false}
-use mathlib.Core.List.{List, [], ◌∷◌, ◌++◌, append_assoc}
-use Rattle.std.proofs.Math.Path.{sym}
-use Rattle.std.proofs.Common.{ap, ◌∙◌, length-append}
-use native.Mathlib.Omega.{arith}
-use borrow.Author.Tests.{eqb-true, eqb-false, ne_eqb, lt-ltb}
-use Rattle.std.proofs.Math.ListN.{length}
+use Rattle.std.proofs.Math.Bool.{and-true}
 use Rattle.std.proofs.Math.Seq.{drop-append_seam, take-append_seam}
 use Rattle.text.specs.Index.{index_of, index_after}
 use Rattle.text.specs.Ascii.{equals, line_feed}
 use Rattle.text.specs.Line.{contains, begins, same, is_line, value_of}
 use Rattle.report.specs.Decimal.{decimal, number_line}
 use Rattle.report.specs.Printed.{whole_number, printed_from}
-use Rattle.text.specs.declared.number.Number.TheVariants.{Value}
+use Rattle.std.specs.Prelude.{Some}
 use Rattle.text.specs.Laws.Joined.{Lacks, lacks_cons, index_append}
 use Rattle.report.specs.Laws.Spelled.{decimal_reads, decimal-some, decimal_line}
 
@@ -29,10 +23,7 @@ module _ (key rest : List ℕ) (n : ℕ) (k : Lacks line_feed key) where
   -- the line as its start, its digits and the rest
   apart : number_line key n ++ rest ≡ start ++ tail
   unfolding number_line
-  apart =
-      append_assoc (key ++ equals ∷ decimal n) (line_feed ∷ []) rest
-      ∙ append_assoc key (equals ∷ decimal n) (line_feed ∷ rest)
-      ∙ sym (append_assoc key (equals ∷ []) tail)
+  apart = simp append_assoc
 
   start-length : length start ≡ length key + 1
   start-length = length-append key (equals ∷ [])
@@ -52,19 +43,9 @@ module _ (key rest : List ℕ) (n : ℕ) (k : Lacks line_feed key) where
       )
 
   line_ended : contains line_feed (start ++ tail) ≡ true
-  line_ended =
-      lt-ltb
-      (index_of line_feed (start ++ tail))
-      (length (start ++ tail))
-      (omega (
-        arith,
-        line_end,
-        start-length,
-        length-append start tail,
-        length-append (decimal n) (line_feed ∷ rest),
-      ))
+  line_ended = grind (arith, line_end, length-append)
 
-  line_number : whole_number (value_of key (number_line key n ++ rest)) ≡ Value n
+  line_number : whole_number (value_of key (number_line key n ++ rest)) ≡ Some n
   unfolding value_of
   line_number =
       let size : index_of line_feed (start ++ tail) - length start ≡ length (decimal n) = omega (
@@ -102,20 +83,9 @@ module _ (key rest : List ℕ) (n : ℕ) (k : Lacks line_feed key) where
 key_told : (key own r : List ℕ) → Lacks equals key → Lacks equals own
     → (begins key (own ++ equals ∷ r) && eqb (get_or (own ++ equals ∷ r) (length key) 0) equals) ≡ same key own
 key_told [] [] r k o = refl
-key_told [] (b ∷ own) r k o = rw ((lacks_cons equals b own o).0, ne_eqb (suc (length own)) 0 (λ e. omega arith))
-key_told (a ∷ key) [] r k o =
-    let other = eqb-false a equals (lacks_cons equals a key k).0 in
-    rw (ne_eqb equals a (λ e. other (sym e)), ne_eqb 0 (suc (length key)) (λ e. omega arith))
-key_told (a ∷ key) (b ∷ own) r k o =
-    rw compare.suc-suc
-    (go (eqb b a) (key_told key own r (lacks_cons equals a key k).1 (lacks_cons equals b own o).1))
-  where
-    go : (t : Bool)
-        → (begins key (own ++ equals ∷ r) && eqb (get_or (own ++ equals ∷ r) (length key) 0) equals) ≡ same key own
-        → (t && begins key (own ++ equals ∷ r) && eqb (get_or (own ++ equals ∷ r) (length key) 0) equals)
-        ≡ (eqb (length own) (length key) && (t && begins key own))
-    go true e = e
-    go false e = sym (and-false (eqb (length own) (length key)))
+key_told [] (b ∷ own) r k o = grind (arith, lacks_cons equals b own o)
+key_told (a ∷ key) [] r k o = grind (arith, lacks_cons equals a key k)
+key_told (a ∷ key) (b ∷ own) r k o = grind (arith, key_told key own r, lacks_cons equals a key k, lacks_cons equals b own o)
 
 -- a line that begins here and has the key is the one that is read
 here : (key t : List ℕ) → is_line key t ≡ true → printed_from true key t ≡ whole_number (value_of key t)
@@ -128,20 +98,18 @@ here key (b ∷ t) e = rw e
 passed_rest : (key rest s : List ℕ) → Lacks line_feed s → printed_from false key (s ++ line_feed ∷ rest) ≡ printed_from true key rest
 unfolding printed_from
 passed_rest key rest [] k = refl
-passed_rest key rest (b ∷ s) k =
-    let l = lacks_cons line_feed b s k in
-    ap (λ (line : Bool). printed_from line key (s ++ line_feed ∷ rest)) l.0 ∙ passed_rest key rest s l.1
+passed_rest key rest (b ∷ s) k = grind (arith, lacks_cons line_feed b s k, passed_rest key rest s)
 
 passed : (key rest s : List ℕ) → Lacks line_feed s → is_line key (s ++ line_feed ∷ rest) ≡ false
     → printed_from true key (s ++ line_feed ∷ rest) ≡ printed_from true key rest
 unfolding printed_from
 passed key rest [] k e = rw e
-passed key rest (b ∷ s) k e = let l = lacks_cons line_feed b s k in rw (e, l.0) (passed_rest key rest s l.1)
+passed key rest (b ∷ s) k e = grind (arith, e, lacks_cons line_feed b s k, passed_rest key rest s)
 
 -- keys of one length have one value
 same_value : (key own t : List ℕ) → same key own ≡ true → value_of key t ≡ value_of own t
 unfolding value_of
-same_value key own t e = rw (eqb-true (length own) (length key) ((and-eq-true_iff _ _).0 e).0)
+same_value key own t e = grind (arith, e)
 
 module _ (key own rest : List ℕ) (n : ℕ) (k : Lacks equals key) (o : Lacks equals own) (l : Lacks line_feed own) where
   line_is : is_line key (number_line own n ++ rest) ≡ same key own
@@ -151,14 +119,14 @@ module _ (key own rest : List ℕ) (n : ℕ) (k : Lacks equals key) (o : Lacks e
 
   -- the line of this key shows n; any other is passed over
   pub printed_line : printed_from true key (number_line own n ++ rest)
-      ≡ cond (same key own) (Value n) (printed_from true key rest)
+      ≡ cond (same key own) (Some n) (printed_from true key rest)
   printed_line = go (same key own) refl
     where
       ended : number_line own n ++ rest ≡ body own rest n l ++ line_feed ∷ rest
       ended = apart own rest n l ∙ sym (append_assoc (start own rest n l) (decimal n) (line_feed ∷ rest))
 
       go : (t : Bool) → same key own ≡ t
-          → printed_from true key (number_line own n ++ rest) ≡ cond t (Value n) (printed_from true key rest)
+          → printed_from true key (number_line own n ++ rest) ≡ cond t (Some n) (printed_from true key rest)
       go true e =
           here key (number_line own n ++ rest) (line_is ∙ e)
           ∙ rw (same_value key own (number_line own n ++ rest) e) (line_number own rest n l)

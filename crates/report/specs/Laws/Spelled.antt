@@ -1,11 +1,11 @@
 -- The decimal of a number, digit by digit, and that it is read back as that number. Assumes nothing.
-use Rattle.std.specs.Prelude.{ℕ, zero, suc, ◌+◌, ◌-◌, ◌*◌, ◌/◌, ◌%◌, ◌≤◌, ◌<◌, Bool, true, false, cond, List, [], ◌∷◌, ◌++◌, ◌≡◌, refl, ltb, length}
-use Rattle.std.proofs.Common.{ap, ◌∙◌, arith, ltb-true, ltb-false, le-leb, lt-ltb, le-ltb, ne_eqb, length-append}
+use Rattle.std.specs.Prelude.{ℕ, zero, suc, ◌+◌, ◌-◌, ◌*◌, ◌/◌, ◌%◌, ◌≤◌, ◌<◌, Bool, true, false, List, [], ◌∷◌, ◌++◌, ◌≡◌, refl, ltb, length}
+use Rattle.std.proofs.Common.{ap, ◌∙◌, arith, ltb-true, ltb-false, lt-ltb, le-ltb, ne_eqb, length-append}
 use Rattle.text.specs.Index.{index_of, index_after}
 use Rattle.text.specs.Ascii.{line_feed}
-use Rattle.text.specs.Number.{is_digit, digits_after}
+use Rattle.text.specs.Number.{digits_after}
 use Rattle.report.specs.Decimal.{digits_of, decimal}
-use Rattle.text.specs.declared.number.Number.TheVariants.{Value, Malformed}
+use Rattle.std.specs.Prelude.{Some}
 use Rattle.text.specs.Laws.Joined.{Lacks, index_append}
 
 -- fuel beyond n changes nothing
@@ -14,7 +14,7 @@ fuel zero zero n hf hg = refl
 fuel zero (suc g) n hf hg = rw (lt-ltb n 10 (omega arith))
 fuel (suc f) zero n hf hg = rw (lt-ltb n 10 (omega arith))
 fuel (suc f) (suc g) zero hf hg = refl
-fuel (suc f) (suc g) (suc n) hf hg = rw (fuel f g (suc n / 10) (omega arith) (omega arith))
+fuel (suc f) (suc g) (suc n) hf hg = grind (arith, fuel f g (suc n / 10))
 
 pub decimal-one : (n : ℕ) → n < 10 → decimal n ≡ (48 + n) ∷ []
 unfolding decimal
@@ -25,10 +25,7 @@ pub decimal-more : (n : ℕ) → 10 ≤ n → decimal n ≡ decimal (n / 10) ++ 
 unfolding decimal
 decimal-more zero h = absurd (omega arith)
 decimal-more (suc n) h =
-    rw (le-ltb (suc n) 10 h)
-    (ap
-    (λ (ds : List ℕ). ds ++ (48 + suc n % 10) ∷ [])
-    (fuel n (suc n / 10) (suc n / 10) (omega arith) (omega arith)))
+    rw (le-ltb (suc n) 10 h, fuel n (suc n / 10) (suc n / 10) (omega arith) (omega arith)) refl
 
 -- what holds of one digit, and of one digit more, holds of every number
 pub by_digits : (P : ℕ → Type 0) → ((n : ℕ) → n < 10 → P n) → ((n : ℕ) → 10 ≤ n → P (n / 10) → P n) → (n : ℕ) → P n
@@ -43,36 +40,21 @@ by_digits P one more n = go n n (omega arith)
     go (suc k) n h = choose n (ltb n 10) refl (λ (b : 10 ≤ n). go k (n / 10) (omega arith))
 
 -- one digit more
-digits_snoc : (xs : List ℕ) (a m d : ℕ) → d < 10 → digits_after a xs ≡ Value m
-    → digits_after a (xs ++ (48 + d) ∷ []) ≡ Value (m * 10 + d)
-digits_snoc [] a m d h e =
-    let q : a ≡ m = cc in
-    let s : 48 + d - 48 ≡ d = omega arith in
-    rw (le-leb 48 (48 + d) (omega arith), le-leb (48 + d) 57 (omega arith), s, q)
-digits_snoc (b ∷ bs) a m d h e = go (is_digit b) e (digits_snoc bs (a * 10 + (b - 48)) m d h)
-  where
-    go : (t : Bool) → cond t (digits_after (a * 10 + (b - 48)) bs) Malformed ≡ Value m
-        → (digits_after (a * 10 + (b - 48)) bs ≡ Value m
-        → digits_after (a * 10 + (b - 48)) (bs ++ (48 + d) ∷ []) ≡ Value (m * 10 + d))
-        → cond t (digits_after (a * 10 + (b - 48)) (bs ++ (48 + d) ∷ [])) Malformed ≡ Value (m * 10 + d)
-    go true q f = f q
-    go false q f = let z : ◌≡◌ {A = ℕ} 0 1 = cc in absurd (omega arith)
+digits_snoc : (xs : List ℕ) (a m d : ℕ) → d < 10 → digits_after a xs ≡ Some m
+    → digits_after a (xs ++ (48 + d) ∷ []) ≡ Some (m * 10 + d)
+digits_snoc [] a m d h e = grind arith
+digits_snoc (b ∷ bs) a m d h e = grind (arith, digits_snoc bs (a * 10 + (b - 48)) m d h)
 
-pub decimal_reads : (n : ℕ) → digits_after 0 (decimal n) ≡ Value n
+pub decimal_reads : (n : ℕ) → digits_after 0 (decimal n) ≡ Some n
 decimal_reads =
-    by_digits (λ n. digits_after 0 (decimal n) ≡ Value n)
-    (λ n h.
-    rw (decimal-one n h, le-leb 48 (48 + n) (omega arith), le-leb (48 + n) 57 (omega arith))
-    (ap Value (omega arith)))
-    (λ n h p.
-    rw (decimal-more n h)
-    (digits_snoc (decimal (n / 10)) 0 (n / 10) (n % 10) (omega arith) p ∙ ap Value (omega arith)))
+    by_digits (λ n. digits_after 0 (decimal n) ≡ Some n)
+    (λ n h. rw (decimal-one n h) (grind arith))
+    (λ n h p. rw (decimal-more n h) (digits_snoc (decimal (n / 10)) 0 (n / 10) (n % 10) (omega arith) p ∙ ap Some (omega arith)))
 
 pub decimal-some : (n : ℕ) → 1 ≤ length (decimal n)
 decimal-some =
-    by_digits (λ n. 1 ≤ length (decimal n))
-    (λ n h. rw (decimal-one n h) (omega arith))
-    (λ n h p. rw (decimal-more n h, length-append) (omega arith))
+    by_digits (λ n. 1 ≤ length (decimal n)) (λ n h. rw (decimal-one n h) (omega arith))
+    (λ n h p. rw (decimal-more n h) (grind (arith, length-append)))
 
 -- no LF is among the digits
 pub decimal_line : (n : ℕ) → Lacks line_feed (decimal n)

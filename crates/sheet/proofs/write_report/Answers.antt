@@ -4,6 +4,6 @@ use Rattle.sheet.proofs.write_report.Goals as goal
 
 pub returns : goal.returns
 returns c =
-    let made = c.answer-outcome.ensures in
-    let n = c.length_of.ensures in
+    let made = c.answer.ensures in
+    let n = c.length.ensures in
     record { value = n ∙ made.numbers.2; content = made.content; exact = made.exact; short = rw n made.short }

@@ -1,16 +1,9 @@
 -- `lines::put_line` meets its contract. Assumes nothing.
-use Rattle.std.proofs.Common.{arith}
+use Rattle.std.proofs.Common.{rules, append_assoc}
 use Rattle.report.specs.Decimal.{number_line}
-use Rattle.report.proofs.Written.{followed_by}
+use Rattle.report.proofs.Digits.{same_decimal}
 use Rattle.report.proofs.lines.put_line.Goals as goal
 
-pub returns : goal.returns
+pub returns-clause-line : goal.returns-clause-line
 unfolding number_line
-returns c =
-    record {
-      wrote =
-          followed_by
-          (followed_by c.put-at.ensures (followed_by c.put-at-2.ensures c.put_decimal-at.ensures.wrote))
-          c.put.ensures;
-      short = omega arith;
-    }
+returns-clause-line c = search (rules, append_assoc, same_decimal c.args.n c.ranges.n.fits)

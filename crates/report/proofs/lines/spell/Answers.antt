@@ -1,17 +1,16 @@
 -- `lines::spell` meets its contract. Assumes nothing.
+use Rattle.std.proofs.Common.{rules}
+use Rattle.report.specs.Report.{report_text}
 use Rattle.report.proofs.lines.spell.Goals as goal
 
-pub returns-in-Endplate : goal.returns-in-Endplate
-returns-in-Endplate c =
-    let e = c in
-    rw e.in-Endplate.is e.endplate_lines.ensures
+pub returns-in-Ok-Endplate : goal.returns-in-Ok-Endplate
+unfolding report_text
+returns-in-Ok-Endplate c = search rules
 
-pub returns-in-BlindFlange : goal.returns-in-BlindFlange
-returns-in-BlindFlange c =
-    let b = c in
-    rw b.in-BlindFlange.is b.blind_flange_lines.ensures
+pub returns-in-Ok-BlindFlange : goal.returns-in-Ok-BlindFlange
+unfolding report_text
+returns-in-Ok-BlindFlange c = search rules
 
-pub returns-in-Refused : goal.returns-in-Refused
-returns-in-Refused c =
-    let r = c in
-    rw r.in-Refused.is r.refused_lines.ensures
+pub returns-in-Err : goal.returns-in-Err
+unfolding report_text
+returns-in-Err c = search rules

@@ -1,113 +1,102 @@
--- `figures::blind_flange_figures` meets its contract: what each call asks for follows from what those before it
--- answered. Assumes nothing.
-use Rattle.std.proofs.Common.{arith, ◌≡◌, ◌≤◌}
-use Rattle.limits.specs.Causes.{first_cause}
-use Rattle.limits.specs.declared.BlindFlangeSheet.{BlindFlangeSheet}
+-- `figures::blind_flange_figures` meets its contract: what each step asks for follows from what those before it answered.
+-- Assumes nothing.
+use Rattle.std.proofs.Common.{arith, ap, rules, sym, ◌∙◌, ◌≡◌, ◌≤◌, ℕ, Option, unwrap_or}
+use Rattle.tables.specs.DesignStress.{design_stress_of}
 use Rattle.rules.specs.Bounds.{most_load}
-use Rattle.rules.specs.FlangeCauses.{blind_flange_causes}
-use Rattle.rules.specs.Figures.{blind_flange_figures}
-use Rattle.rules.specs.Loads.{gasket_of}
-use Rattle.rules.specs.declared.gasket.Gasket.{Gasket}
+use Rattle.rules.specs.Figures.{ambient, blind_flange_figures}
 use Rattle.rules.proofs.WithinLimits.{FlangeWithin, BoltingWithin, both_within}
 use Rattle.rules.proofs.FlangeBounded as bounds
 use Rattle.rules.proofs.figures.blind_flange_figures.Goals as goal
-use Rattle.rules.proofs.figures.blind_flange_figures.Goals.{After-flange_load-flange, After-bolt_area-area}
+use Rattle.rules.proofs.figures.blind_flange_figures.Goals.{Start, After-unwrap-ambient_stress}
 
 -- what holds of the sheet and its gasket where no cause applies
-module _ (s : BlindFlangeSheet) (gasket : Gasket) (asked : (first_cause (blind_flange_causes s) ≡ 0) × (gasket ≡ gasket_of s)) where
-  abbrev limits : FlangeWithin s
-  limits = (both_within s asked.0).0
+limits : (c : Start) → FlangeWithin c.args.s
+limits c = (both_within c.args.s c.requires.within).0
 
-  abbrev bolting : BoltingWithin s
-  bolting = (both_within s asked.0).1
+bolting : (c : Start) → BoltingWithin c.args.s
+bolting c = (both_within c.args.s c.requires.within).1
 
-  most : bounds.GasketMost s limits gasket
-  most = bounds.gasket_most s limits asked.1
+most : (c : Start) → bounds.GasketMost c.args.s (limits c) c.args.gasket
+most c = bounds.gasket_most c.args.s (limits c) c.requires.worked.1
 
-  circle : bounds.Circle s limits bolting gasket.reaction_diameter
-  circle = bounds.circle s limits bolting asked.1
+circle : (c : Start) → bounds.Circle c.args.s (limits c) (bolting c) c.args.gasket.reaction_diameter
+circle c = bounds.circle c.args.s (limits c) (bolting c) c.requires.worked.1
 
-stresses :
-    (c : After-bolt_area-area) →
-    bounds.Stresses
-    c.args.s
-    (limits c.args.s c.args.gasket c.requires)
-    c.design_stress-stress.result
-    c.design_stress-ambient.result
-stresses c =
-    bounds.stresses
-    c.args.s
-    (limits c.args.s c.args.gasket c.requires)
-    c.design_stress-stress.ensures
-    c.design_stress-ambient.ensures
-
-flange : (c : After-flange_load-flange) → c.flange_load-flange.result ≤ most_load
+flange : (c : Start) → c.args.flange_load ≤ most_load
 flange c =
-    let s = c.args.s in
-    let gasket = most s c.args.gasket c.requires in
-    bounds.flange s (limits s c.args.gasket c.requires) (bolting s c.args.gasket c.requires) gasket.operating gasket.seating
-    (rw c.bolt_area-area.ensures at c.flange_load-flange.ensures)
+    bounds.flange c.args.s (limits c) (bolting c) (most c).operating (most c).seating c.requires.loaded
 
-pub flange_load-flange-requires : goal.flange_load-flange-requires
-flange_load-flange-requires c =
-    let s = c.args.s in
-    omega (arith, most s c.args.gasket c.requires, c.bolt_area-area.ensures, bolting s c.args.gasket c.requires)
+pub unwrap-ambient_stress-requires : goal.unwrap-ambient_stress-requires
+unwrap-ambient_stress-requires c =
+    let w = goal.at.unwrap-ambient_stress-requires c in
+    rw (c.design_stress.ensures, bounds.ambient_given c.args.s (limits w.Start)) (search rules)
 
-pub flange_thickness-thickness-requires : goal.flange_thickness-thickness-requires
-flange_thickness-thickness-requires c =
-    let s = c.args.s in
-    let stressed = stresses (goal.at.flange_thickness-thickness-requires c).After-bolt_area-area in
-    let gasket = most s c.args.gasket c.requires in
-    let round = circle s c.args.gasket c.requires in
-    record {
-      stress_and_load = omega (arith, stressed, gasket, (limits s c.args.gasket c.requires).pressure);
-      diameters = omega (arith, gasket, round);
-    }
+-- S0 is the table's
+ambient_stress : (c : After-unwrap-ambient_stress) → c.unwrap-ambient_stress.result ≡ design_stress_of c.args.s.material ambient
+ambient_stress c =
+    let w = goal.at.After-unwrap-ambient_stress c in
+    ap
+    (λ (o : Option ℕ). unwrap_or o 0)
+    (sym c.unwrap-ambient_stress.ensures ∙ c.design_stress.ensures ∙ bounds.ambient_given c.args.s (limits w.Start))
+
+stresses : (c : After-unwrap-ambient_stress) → bounds.Stresses c.args.s (limits (goal.at.After-unwrap-ambient_stress c).Start) c.args.stress c.unwrap-ambient_stress.result
+stresses c =
+    let w = goal.at.After-unwrap-ambient_stress c in
+    bounds.stresses c.args.s (limits w.Start) c.requires.worked.0 (ambient_stress c)
+
+pub invariant_of-diameters : goal.invariant_of-diameters
+invariant_of-diameters c =
+    let w = (goal.at.invariant_of-diameters c).Start in
+    record { bounded = omega (arith, most w, circle w) }
+
+pub invariant_of-operating : goal.invariant_of-operating
+invariant_of-operating c =
+    let w = goal.at.invariant_of-operating c in
+    record { bounded = omega (arith, stresses w.After-unwrap-ambient_stress, most w.Start) }
 
 -- whichever load is handed on fits: which one it has to be is a matter of the result
-pub edge_thickness-edge-requires : goal.edge_thickness-edge-requires
-edge_thickness-edge-requires c =
-    let s = c.args.s in
-    let w = goal.at.edge_thickness-edge-requires c in
-    let stressed = stresses w.After-bolt_area-area in
-    let gasket = most s c.args.gasket c.requires in
-    let round = circle s c.args.gasket c.requires in
-    let load = flange w.After-flange_load-flange in
-    record {
-      stress_and_load = omega (arith, stressed, gasket, load);
-      diameters = omega (arith, gasket, round);
-    }
+pub invariant_of-ambient : goal.invariant_of-ambient
+invariant_of-ambient c =
+    let w = goal.at.invariant_of-ambient c in
+    record { bounded = omega (arith, stresses w.After-unwrap-ambient_stress, flange w.Start) }
+
+pub flange_thickness-thickness-requires : goal.flange_thickness-thickness-requires
+flange_thickness-thickness-requires c = (limits (goal.at.flange_thickness-thickness-requires c).Start).pressure
 
 pub overflow_add-result : goal.overflow_add-result
 overflow_add-result c =
     let s = c.args.s in
     let w = goal.at.overflow_add-result c in
-    let stressed = stresses w.After-bolt_area-area in
-    let gasket = most s c.args.gasket c.requires in
-    let round = circle s c.args.gasket c.requires in
-    let within = limits s c.args.gasket c.requires in
-    let bolts = bolting s c.args.gasket c.requires in
+    let within = limits w.Start in
+    let bolts = bolting w.Start in
+    let stressed = stresses w.After-unwrap-ambient_stress in
+    let gasket = most w.Start in
+    let round = circle w.Start in
     let operating : c.args.gasket.operating_load ≤ most_load = omega (arith, gasket.operating) in
     omega (
       arith,
       within.allowance,
-      c.greater.ensures,
+      c.max.ensures,
+      c.from-4.ensures,
       c.flange_thickness-thickness.ensures,
       bounds.thickness_most s within bolts stressed gasket.ring.diameter round operating,
-      bounds.edge_most s within bolts stressed gasket.ring.diameter round operating c.edge_thickness-edge.ensures
-          (omega (arith, gasket.seating, flange w.After-flange_load-flange)),
+      bounds.edge_most s within bolts stressed gasket.ring.diameter round operating c.edge_thickness-edge.ensures (flange w.Start),
     )
 
 pub returns : goal.returns
 unfolding blind_flange_figures
 returns c =
+    let w = goal.at.returns c in
     rw (
-      c.greater.ensures,
+      c.max.ensures,
       c.edge_thickness-edge.ensures,
       c.flange_thickness-thickness.ensures,
-      c.flange_load-flange.ensures,
-      c.bolt_area-area.ensures,
-      c.design_stress-ambient.ensures,
-      c.design_stress-stress.ensures,
-      c.requires.1,
+      c.from-4.ensures,
+      c.from-3.ensures,
+      c.from-2.ensures,
+      c.from.ensures,
+      ambient_stress w.After-unwrap-ambient_stress,
+      c.requires.loaded,
+      c.requires.worked.0,
+      c.requires.worked.1,
     )

@@ -10,22 +10,22 @@ endplate_thickness-thickness-requires c =
     let s = c.args.s in
     omega (
       arith,
-      endplate_within s c.requires,
-      c.endplate_stress-stress.ensures,
+      endplate_within s c.requires.within,
+      c.requires.worked,
       endplate_stress_most s.form s.material s.shell s.temperature,
     )
 
 pub overflow_add-result : goal.overflow_add-result
 overflow_add-result c =
     let s = c.args.s in
-    let a = endplate_within s c.requires in
-    let f = c.endplate_stress-stress in
+    let a = endplate_within s c.requires.within in
     omega (
       arith,
+      c.from-2.ensures,
       c.endplate_thickness-thickness.ensures,
-      endplate_thickness_most s.form {F = f.result} (rw f.ensures a.stressed) a.pressure a.diameter,
+      endplate_thickness_most s.form {F = c.args.stress} (rw c.requires.worked a.stressed) a.pressure a.diameter,
     )
 
 pub returns : goal.returns
 unfolding endplate_figures
-returns c = rw (c.endplate_thickness-thickness.ensures, c.endplate_stress-stress.ensures)
+returns c = rw (c.from.ensures, c.from-2.ensures, c.endplate_thickness-thickness.ensures, c.requires.worked)

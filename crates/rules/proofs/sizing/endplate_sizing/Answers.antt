@@ -1,12 +1,16 @@
 -- `sizing::endplate_sizing` meets its contract. Assumes nothing.
-use Rattle.std.proofs.Common.{sym, ◌∙◌}
-use Rattle.rules.proofs.SizedOrRefused.{endplate_refused, endplate_sized}
+use Rattle.limits.specs.Laws.{number_not_zero}
+use Rattle.std.proofs.lemmas.Result.{err_from_is_err_and}
+use Rattle.rules.proofs.SizedOrRefused.{endplate_refused, endplate_fits}
 use Rattle.rules.proofs.sizing.endplate_sizing.Goals as goal
 
-pub returns-then-cause-ne0 : goal.returns-then-cause-ne0
-returns-then-cause-ne0 c = endplate_refused _ c.endplate_cause-cause.ensures c.if-cause-ne0.true
+pub returns-in_err-stress : goal.returns-in_err-stress
+returns-in_err-stress c =
+    let cause = c.in_err-stress.field-0.0 in
+    let out = err_from_is_err_and c.from_residual.result c.from_residual.ensures.1 in
+    rw
+    (out.1, out.2)
+    (endplate_refused c.args.s c.in_err-stress.ensures.cause (number_not_zero cause))
 
 pub returns : goal.returns
-returns c =
-    let b = c in
-    endplate_sized _ (sym b.if-cause-ne0.false ∙ b.endplate_cause-cause.ensures) c.endplate_figures.ensures
+returns c = endplate_fits c.args.s c.in_ok-stress.ensures.cause c.endplate_figures.ensures

@@ -1,17 +1,11 @@
 -- `line::first` meets its contract. Assumes nothing.
-use Rattle.std.proofs.Common.{arith}
-use Rattle.text.proofs.Parts.{index_here, index_later, index_nowhere}
+use Rattle.std.proofs.Common.{eqb, rules, tests}
+use Rattle.std.proofs.lemmas.Iterator.{YieldsList-from_slice}
+use Rattle.std.proofs.lemmas.Iterator.Search.{position_from_yields_List}
+use Rattle.text.proofs.Parts.{index_is}
 use Rattle.text.proofs.line.first.Goals as goal
-
-pub returns-then-x-b : goal.returns-then-x-b
-returns-then-x-b c =
-    let here = index_here c.args.b c.loop-i.i c.args.t.now (omega arith) c.if-x-b.true in
-    (omega (arith, here), omega arith)
-
-pub loop-i-preserved : goal.loop-i-preserved
-loop-i-preserved c = omega (arith, index_later c.args.b c.loop-i.i c.args.t.now (omega arith) c.if-x-b.false)
 
 pub returns : goal.returns
 returns c =
-    let nowhere = index_nowhere c.args.b c.loop-i.i c.args.t.now (omega arith) in
-    (omega (arith, nowhere), omega arith)
+    rw (index_is c.args.b c.args.t.now)
+    (position_from_yields_List (λ x. eqb x c.args.b) _ _ _ c.position.ensures.ran (YieldsList-from_slice c.args.t.now cc) (λ x b q k. search (rules, tests)))

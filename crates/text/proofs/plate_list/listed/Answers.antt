@@ -1,63 +1,46 @@
 -- `plate_list::listed` meets its contract. Assumes nothing.
-use Rattle.std.proofs.Common.{ap, arith, refl, rules, set, sym, take, ◌+◌, ◌-◌, ◌∙◌, ◌≡◌}
-use Rattle.text.specs.Ascii.{comma}
-use Rattle.text.specs.Line.{before}
-use Rattle.text.specs.Number.{number_of}
-use Rattle.text.specs.Plates.{most_plates, plates_held}
-use Rattle.text.specs.Laws.Padded.{zeros_after}
-use Rattle.text.proofs.Listed.{prepend_list_nothing, numbers_over, numbers_malformed}
-use Rattle.text.proofs.Listed.{listed_more, listed_last, plates_held-some, plates_held-none}
+use Rattle.std.proofs.Common.{rules, tests, arith, ◌∙◌, ◌≡◌, ◌<◌, sym, ◌-◌, ap, length, get_or}
+use Rattle.std.specs.List.{slice_split}
+use Rattle.text.specs.Plates.{most_plates}
+use Rattle.std.proofs.lemmas.Iterator.Consumers.{YieldsList-turn, YieldsList-end}
+use Rattle.std.proofs.lemmas.Iterator.Splits.{YieldsList-from_slice_split}
+use Rattle.std.proofs.lemmas.List.{length_push}
+use Rattle.text.proofs.Listed.{is_comma, numbers_listed_is, prepend_list, prepend_list_nothing, numbers_full, numbers_malformed, numbers_more, numbers_end}
 use Rattle.text.proofs.plate_list.listed.Goals as goal
-use Rattle.text.proofs.plate_list.listed.Goals.{After-read_number-number}
+use Rattle.text.proofs.plate_list.listed.Goals.{In-Some}
 
--- the number that stands before the next comma
-spelled : (c : After-read_number-number)
-    → number_of (before comma c.loop-count.t.now) ≡ c.read_number-number.result
-spelled c = sym (c.read_number-number.ensures ∙ ap number_of c.part_before.ensures)
+-- the part that is read is the next of those around the commas
+here : (c : In-Some)
+    → (length c.loop-part.yielded < length (slice_split is_comma c.args.v.now))
+    × (c.in-Some.part.now ≡ get_or (slice_split is_comma c.args.v.now) (length c.loop-part.yielded) c.in-Some.part.now)
+here c =
+    YieldsList-turn (YieldsList-from_slice_split _ is_comma c.args.v.now (cc) (cc) (cc) (λ x b q k. search (rules, tests))) c.loop-part.yielded _ c.loop-part.yielded_by _ _ c.in-Some.part c.in-Some.is c.next.ensures.steps
 
-pub returns-in_default : goal.returns-in_default
-returns-in_default c =
-    let l = c.loop-count in
-    let none = spelled (goal.at.returns-in_default c).After-read_number-number ∙ c.in_default.is in
-    c.malformed_plates.ensures
-    ∙ plates_held-none (take l.count l.list) l.invariant.0 (numbers_malformed l.t.now l.count (search rules) none)
+pub loop-part-init : goal.loop-part-init
+loop-part-init c =
+    (numbers_listed_is _ _ ∙ rw c.new-plates.ensures (prepend_list_nothing _), rw c.new-plates.ensures, search rules)
 
-pub returns-then-not-has : goal.returns-then-not-has
-returns-then-not-has c =
-    let l = c.loop-count in
-    let x = c.in-Value.x in
-    let value = spelled (goal.at.returns-then-not-has c).After-read_number-number ∙ c.in-Value.is in
-    let alone = sym c.has.ensures ∙ c.if-not-has.true in
-    plates_held-some
-    (set l.list l.count x)
-    (l.count + 1)
-    (search rules)
-    (search rules)
-    (zeros_after most_plates l.list l.count x (search rules) l.invariant.2 l.invariant.1)
-    ∙ ap plates_held
-    (sym (l.invariant.0 ∙ listed_last l.t.now l.count (search rules) x value l.list (search rules) alone))
+pub returns-in_err-read_number : goal.returns-in_err-read_number
+returns-in_err-read_number c =
+    let none = numbers_malformed _ _ _ (here (goal.at.returns-in_err-read_number c).In-Some) _ (sym c.in_err-read_number.ensures) in
+    rw c.from_residual.ensures (sym (c.loop-part.invariant.0 ∙ ap (prepend_list c.loop-part.plates.items) none))
 
-pub loop-count-preserved : goal.loop-count-preserved
-loop-count-preserved c =
-    let l = c.loop-count in
-    let k = c in
-    let x = k.in-Value.x in
-    let value = spelled (goal.at.loop-count-preserved k).After-read_number-number ∙ k.in-Value.is in
-    let has = c.has in
-    let more = sym has.ensures ∙ c.if-not-has.false in (
-      l.invariant.0
-          ∙ listed_more l.t.now l.count (search rules) x value l.list (search rules) more
-          ∙ rw c.part_after-rest.ensures,
-      zeros_after most_plates l.list l.count x (search rules) l.invariant.2 l.invariant.1,
-      search rules,
-      search rules,
-    )
+pub returns-then-is_full : goal.returns-then-is_full
+returns-then-is_full c =
+    let l = c.loop-part in
+    let full : length l.plates.items ≡ most_plates = search (rules, tests) in
+    let none = numbers_full _ _ _ (here (goal.at.returns-then-is_full c).In-Some) (most_plates - length l.yielded) (omega arith) in
+    sym (l.invariant.0 ∙ ap (prepend_list l.plates.items) none)
+
+pub loop-part-preserved : goal.loop-part-preserved
+loop-part-preserved c =
+    let l = c.loop-part in
+    let room : length l.plates.items < most_plates = search (rules, tests) in
+    let more = numbers_more _ _ _ (here (goal.at.loop-part-preserved c).In-Some) most_plates l.plates.items _ (sym c.in_ok-read_number.ensures) (omega arith) in
+    rw (length_push l.yielded c.in-Some.part, c.push.ensures.items, length_push l.plates.items c.in_ok-read_number.field-0)
+    (l.invariant.0 ∙ more, omega arith, omega arith)
 
 pub returns : goal.returns
 returns c =
-    let l = c.loop-count in
-    c.malformed_plates-2.ensures
-    ∙ plates_held-none (take l.count l.list) l.invariant.0 (numbers_over l.t.now (most_plates - l.count) (omega arith))
-
-pub loop-count-init : goal.loop-count-init
-loop-count-init c = (prepend_list_nothing _, refl, refl, search rules)
+    let t = YieldsList-end (YieldsList-from_slice_split _ is_comma c.args.v.now (cc) (cc) (cc) (λ x b q k. search (rules, tests))) c.loop-part.yielded _ c.loop-part.yielded_by _ _ c.in-None.is c.next.ensures.steps in
+    sym (c.loop-part.invariant.0 ∙ numbers_end _ _ _ _ t.1)

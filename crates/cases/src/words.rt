@@ -1,0 +1,17 @@
+// Numbers as the calls take them: their low 32 bits, and for C four bytes to a plate, lowest first.
+use std::alloc::{AllocError, Allocator};
+
+pub(crate) fn low(n: u64) -> u32 {
+    (n & 0xffff_ffff) as u32
+}
+
+pub(crate) fn words<A: Allocator>(alloc: A, numbers: &[u64]) -> Result<Vec<u32, A>, AllocError> {
+    numbers.iter().map(|n| low(*n)).collect(alloc)
+}
+
+pub(crate) fn bytes_of<A: Allocator>(alloc: A, plates: &[u32]) -> Result<Vec<u8, A>, AllocError> {
+    plates
+        .iter()
+        .flat_map(|plate| plate.to_le_bytes())
+        .collect(alloc)
+}

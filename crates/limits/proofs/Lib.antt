@@ -1,3 +1,0 @@
--- Laws that the proofs of the functions cite.
-mod TestsDecide
-mod CauseByCause

@@ -1,0 +1,47 @@
+// Cause of a refusal, for the whole project, by document 01's number (17: document 02). 15, a space shorter than the report, is
+// no cause of this type: it is about the lent space alone.
+
+#[derive(Clone, Copy, Debug, PartialEq, Eq)]
+pub enum Cause {
+    // A line is absent, has a wrong key or value text or no LF, or follows the last.
+    Malformed = 1,
+    // Material, shell or form.
+    Material = 2,
+    // P is 0 or over 2000.
+    Pressure = 3,
+    // Over 300 °C.
+    Temperature = 4,
+    // Table 1 has a dash for a material in use.
+    NoStress = 5,
+    // dia or od.
+    Diameter = 6,
+    // allow.
+    Allowance = 7,
+    // Contact width of the gasket.
+    Width = 8,
+    // m or y of the gasket.
+    Gasket = 9,
+    // bolt, root or count.
+    Bolts = 10,
+    // sa or sb.
+    BoltStress = 11,
+    // Bolt circle.
+    Circle = 12,
+    // The bolts do not carry the loads.
+    BoltsOverloaded = 13,
+    // No plate reaches the total.
+    NoPlate = 14,
+    // rib or ribw; in checking order right after 8.
+    Rib = 17,
+}
+
+impl Cause {
+    ghost use Rattle.std.specs.Prelude.{◌≡◌};
+    ghost use Rattle.limits.specs.Cause.{number_of};
+
+    pub fn number(self) -> u32
+        ensures { result ≡ number_of self }
+    {
+        self as u32
+    }
+}

@@ -1,8 +1,0 @@
--- `sizing::blind_flange_from` meets its contract. Assumes nothing.
-use Rattle.rules.proofs.sizing.blind_flange_from.Goals as goal
-
-pub returns-in-Plate : goal.returns-in-Plate
-returns-in-Plate c = rw c.in-Plate.is
-
-pub returns-in-NoPlate : goal.returns-in-NoPlate
-returns-in-NoPlate c = rw c.in-NoPlate.is
