@@ -1,5 +1,6 @@
 // Runs the calculation of a blind flange: the numbers of the sheet in the order of its lines, and the plates, or none for
 // the calls without a list. Written are the answer of the call, and then the figures by place, as C gets them.
+// A file for each part: C's calls take their numbers one by one.
 use crate::answers::{answered, by_place};
 use crate::words::{bytes_of, words};
 use capi::{scantling_blind_flange, scantling_blind_flange_standard};
@@ -12,47 +13,8 @@ const PLACES: u32 = 15;
 
 // The sheet, and what follows its numbers.
 fn sheet_of(numbers: &[u32]) -> Option<(BlindFlangeSheet, &[u32])> {
-    let &[
-        material,
-        temperature,
-        pressure,
-        allowance,
-        od,
-        width,
-        rib,
-        rib_width,
-        m,
-        y,
-        circle,
-        bolt,
-        root,
-        count,
-        sa,
-        sb,
-        ref plates @ ..,
-    ] = numbers
-    else {
-        return None;
-    };
-    let sheet = BlindFlangeSheet {
-        material,
-        temperature,
-        pressure,
-        allowance,
-        od,
-        width,
-        rib,
-        rib_width,
-        m,
-        y,
-        circle,
-        bolt,
-        root,
-        count,
-        sa,
-        sb,
-    };
-    Some((sheet, plates))
+    let (own, plates) = numbers.split_first_chunk::<16>()?;
+    Some((BlindFlangeSheet::from(*own), plates))
 }
 
 pub(crate) fn blind_flange(rt: &(impl Print + Alloc), numbers: &[u64]) -> io::Result<()> {

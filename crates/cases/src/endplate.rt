@@ -1,5 +1,6 @@
 // Runs the calculation of an endplate: the numbers of the sheet in the order of its lines, and the plates, or none for
 // the calls without a list. Written are the answer of the call, and then the figures by place, as C gets them.
+// A file for each part: C's calls take their numbers one by one.
 use crate::answers::{answered, by_place};
 use crate::words::{bytes_of, words};
 use capi::{scantling_endplate, scantling_endplate_standard};
@@ -12,29 +13,8 @@ const PLACES: u32 = 8;
 
 // The sheet, and what follows its numbers.
 fn sheet_of(numbers: &[u32]) -> Option<(EndplateSheet, &[u32])> {
-    let &[
-        form,
-        material,
-        shell,
-        temperature,
-        pressure,
-        diameter,
-        allowance,
-        ref plates @ ..,
-    ] = numbers
-    else {
-        return None;
-    };
-    let sheet = EndplateSheet {
-        form,
-        material,
-        shell,
-        temperature,
-        pressure,
-        diameter,
-        allowance,
-    };
-    Some((sheet, plates))
+    let (own, plates) = numbers.split_first_chunk::<7>()?;
+    Some((EndplateSheet::from(*own), plates))
 }
 
 pub(crate) fn endplate(rt: &(impl Print + Alloc), numbers: &[u64]) -> io::Result<()> {

@@ -1,4 +1,5 @@
 -- What the contracts of limits cite, and laws for callers.
+pub mod Sheets
 pub mod Cause
 pub mod Causes
 pub mod Stress

@@ -7,9 +7,9 @@ pub enum Cause {
     Malformed = 1,
     // Material, shell or form.
     Material = 2,
-    // P is 0 or over 2000.
+    // P.
     Pressure = 3,
-    // Over 300 °C.
+    // Design temperature.
     Temperature = 4,
     // Table 1 has a dash for a material in use.
     NoStress = 5,
@@ -39,6 +39,7 @@ impl Cause {
     ghost use Rattle.std.specs.Prelude.{◌≡◌};
     ghost use Rattle.limits.specs.Cause.{number_of};
 
+    // Document 01's number; by name, since the promises cite it.
     pub fn number(self) -> u32
         ensures { result ≡ number_of self }
     {

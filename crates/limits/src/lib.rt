@@ -9,7 +9,8 @@ pub use cause::Cause;
 pub use causes::{bolting_limits, endplate_limits, flange_limits};
 pub use stress::endplate_stress;
 
-// The numbers of an endplate's sheet, in the order of its lines.
+// The numbers of an endplate's sheet, in the order of its lines. They are the sheet's and C's own, of any value until they are
+// tested, so form, material and shell are numbers, and 0 says that there is none.
 #[derive(Clone, Copy)]
 pub struct EndplateSheet {
     // form: 1, 2, 3 for a, c, d.
@@ -28,7 +29,35 @@ pub struct EndplateSheet {
     pub allowance: u32,
 }
 
-// The numbers of a blind flange's sheet, in the order of its lines.
+impl From<[u32; 7]> for EndplateSheet {
+    ghost use Rattle.std.specs.Prelude.{◌≡◌};
+    ghost use Rattle.limits.specs.Sheets.{endplate_of};
+
+    ghost from_gives = { λ numbers s. s ≡ endplate_of numbers };
+
+    fn from(numbers: [u32; 7]) -> EndplateSheet {
+        let [
+            form,
+            material,
+            shell,
+            temperature,
+            pressure,
+            diameter,
+            allowance,
+        ] = numbers;
+        EndplateSheet {
+            form,
+            material,
+            shell,
+            temperature,
+            pressure,
+            diameter,
+            allowance,
+        }
+    }
+}
+
+// The numbers of a blind flange's sheet, in the order of its lines, of any value too.
 #[derive(Clone, Copy)]
 pub struct BlindFlangeSheet {
     // material: 1 to 11.
@@ -63,4 +92,50 @@ pub struct BlindFlangeSheet {
     pub sa: u32,
     // sb: bolt stress at design temperature, N/mm².
     pub sb: u32,
+}
+
+impl From<[u32; 16]> for BlindFlangeSheet {
+    ghost use Rattle.std.specs.Prelude.{◌≡◌};
+    ghost use Rattle.limits.specs.Sheets.{blind_flange_of};
+
+    ghost from_gives = { λ numbers s. s ≡ blind_flange_of numbers };
+
+    fn from(numbers: [u32; 16]) -> BlindFlangeSheet {
+        let [
+            material,
+            temperature,
+            pressure,
+            allowance,
+            od,
+            width,
+            rib,
+            rib_width,
+            m,
+            y,
+            circle,
+            bolt,
+            root,
+            count,
+            sa,
+            sb,
+        ] = numbers;
+        BlindFlangeSheet {
+            material,
+            temperature,
+            pressure,
+            allowance,
+            od,
+            width,
+            rib,
+            rib_width,
+            m,
+            y,
+            circle,
+            bolt,
+            root,
+            count,
+            sa,
+            sb,
+        }
+    }
 }

@@ -46,6 +46,7 @@ pub fn read_lines<const N: usize>(
     let mut values = [0; N];
     let mut t = text;
     for (i, field) in fields.iter().enumerate() {
+        // By index: what `iter_mut` leaves in an array is not told.
         values[i] = field.read(t).ok_or(Malformed { line: i + 2 })?;
         t = next_line(t);
     }

@@ -1,9 +1,10 @@
 -- The plate rule, for callers: the choice is the smallest listed plate that serves, and there is one exactly where one
 -- serves. Assumes nothing.
-use Rattle.std.specs.Prelude.{◌≡◌, refl, Bool, true, false, ◌&&◌, ◌||◌, cond, ℕ, ◌≤◌, ltb, Option, Some, None}
+use Rattle.std.specs.Prelude.{◌≡◌, refl, Bool, true, false, ◌&&◌, ◌||◌, cond, ℕ, ◌≤◌, min, Option, Some, None}
 use Rattle.std.proofs.Math.Path.{sym}
-use Rattle.std.proofs.Common.{ap, subst, ◌∙◌, le_refl, arith, leb-true, ltb-true, ltb-false, le-leb}
+use Rattle.std.proofs.Common.{ap, subst, ◌∙◌, arith, leb-true}
 use Rattle.std.proofs.Math.Bool.{and-eq-true_iff}
+use Rattle.std.specs.List.{filter, fold, reduce}
 use mathlib.Core.List.Memᴰ
 use mathlib.Core.List.{List, [], ◌∷◌, foldl, map}
 use Rattle.plates.specs.Plates.{serves, any_serves, smaller, better, smallest_serving, is_chosen}
@@ -13,23 +14,12 @@ module _ (total : ℕ) where
   -- a choice, with one plate more, is not above what it was not above
   keeps : (c : Option ℕ) (q x : ℕ) → NotAbove c x → NotAbove (better total c q) x
   keeps None q x h = absurd h
-  keeps (Some p) q x h = by_test (serves total q && ltb q p) refl
-    where
-      by_test : (b : Bool) → (serves total q && ltb q p) ≡ b → NotAbove (cond b (Some q) (Some p)) x
-      by_test true e = omega (arith, ltb-true q p ((and-eq-true_iff (serves total q) (ltb q p)).0 e).1)
-      by_test false e = h
-
-  served : (q : ℕ) → total ≤ q → serves total q ≡ true
-  served q h = le-leb total _ (omega arith)
+  keeps (Some p) q x h = grind arith
 
   -- nor above the plate, if that serves
   covers : (c : Option ℕ) (q : ℕ) → total ≤ q → NotAbove (better total c q) q
-  covers None q h = rw (served q h) (le_refl q)
-  covers (Some p) q h = rw (served q h) (by_test (ltb q p) refl)
-    where
-      by_test : (b : Bool) → ltb q p ≡ b → NotAbove (cond b (Some q) (Some p)) q
-      by_test true e = le_refl q
-      by_test false e = ltb-false q p e
+  covers None q h = grind arith
+  covers (Some p) q h = grind arith
 
   run_keeps : (ps : List ℕ) (c : Option ℕ) (x : ℕ) → NotAbove c x → NotAbove (foldl (better total) c ps) x
   run_keeps [] c x h = h
@@ -74,19 +64,21 @@ module _ (total : ℕ) where
       (choice ≡ smallest_serving total plates) × Smallest total plates choice
   as_chosen plates e = (e, rw e (smallest plates))
 
+  -- the least of the plates that serve is the definition's choice
+  picks : (ps : List ℕ) (p : ℕ) → Some (fold min p (filter (serves total) ps)) ≡ foldl (better total) (Some p) ps
+  picks [] p = refl
+  picks (q ∷ ps) p = grind (arith, picks ps)
+
+  pub picked : (plates : List ℕ) → reduce min (filter (serves total) plates) ≡ smallest_serving total plates
+  unfolding smallest_serving
+  picked [] = refl
+  picked (q ∷ ps) = grind (arith, picks ps, picked ps)
+
   -- ---- chosen exactly where one serves
 
   one_more : (c : Option ℕ) (plate : ℕ) → is_chosen (better total c plate) ≡ (is_chosen c || serves total plate)
-  one_more (Some p) plate = by_test (serves total plate && smaller plate (Some p))
-    where
-      by_test : (b : Bool) → is_chosen (cond b (Some plate) (Some p)) ≡ true
-      by_test true = refl
-      by_test false = refl
-  one_more None plate = by_test (serves total plate)
-    where
-      by_test : (b : Bool) → is_chosen (cond (b && true) (Some plate) None) ≡ b
-      by_test true = refl
-      by_test false = refl
+  one_more (Some p) plate = grind arith
+  one_more None plate = grind arith
 
   run_chooses :
       (ps : List ℕ) (c : Option ℕ) →

@@ -3,7 +3,7 @@
 
 ghost use Rattle.std.specs.Prelude.{◌≡◌, ℕ};
 ghost use mathlib.Core.List.{map};
-ghost use Rattle.plates.specs.Plates.{better, smallest_serving, standard_plates, Smallest};
+ghost use Rattle.plates.specs.Plates.{smallest_serving, standard_plates, Smallest};
 
 mod bytes;
 
@@ -25,29 +25,16 @@ impl Plate for u32 {
     }
 }
 
-// The choice so far, or a plate that serves and is smaller.
-fn better_of(total: u64, choice: Option<u32>, plate: u32) -> Option<u32>
-    ensures { result ≡ better total choice plate }
-{
-    if u64::from(plate) < total {
-        return choice;
-    }
-    match choice {
-        Some(chosen) if chosen <= plate => choice,
-        _ => Some(plate),
-    }
-}
-
 // The smallest plate of the list that is not below the total, the first of equals.
 pub fn smallest_serving<P: Plate>(total: u64, plates: &[P]) -> Option<u32>
     ensures value { result ≡ smallest_serving total (map P.thickness_of plates.now) }
     ensures smallest { Smallest total (map P.thickness_of plates.now) result }
 {
-    let mut choice = None;
-    for plate in plates {
-        choice = better_of(total, choice, plate.thickness());
-    }
-    choice
+    plates
+        .iter()
+        .map(|plate| plate.thickness())
+        .filter(|thickness| total <= u64::from(*thickness))
+        .min()
 }
 
 // The usual stock.

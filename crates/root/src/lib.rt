@@ -4,7 +4,7 @@
 ghost use Rattle.std.specs.Prelude.{◌≡◌, ◌+◌, ◌*◌, ◌/◌, ◌%◌, ◌^◌, ◌≤◌, ◌<◌};
 ghost use Rattle.root.specs.Root.{ceil_div, least_root, least_root_over};
 
-// The answer where the divisor or the factor is 0.
+// The answer where the divisor or the factor is 0. Not an Option: no caller has such a one, and each would have to say so.
 const OVER_ZERO: u64 = 0;
 
 // The least q with n <= d * q; OVER_ZERO where d is 0.
@@ -27,7 +27,7 @@ struct Whole {
 // A root of one in `high`: 2^32.
 const HIGH_ONE: u64 = 4294967296;
 
-// The lowest bits of n.
+// The lowest bits of n, by shifts and a difference: document 02, R-5, allows no more here.
 fn low_bits(n: u64, bits: u32) -> u64
     requires { bits < 64 }
     ensures { result ≡ n % 2 ^ bits }

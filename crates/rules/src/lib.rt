@@ -70,7 +70,8 @@ pub enum Size {
     },
 }
 
-// The first cause to refuse a part, and the figure returned with it: the line of 1, the total of 14, else 0.
+// The first cause to refuse a part, and the figure returned with it: the line of 1, the total of 14, else 0. Document 01 gives
+// every refusal these two numbers.
 #[derive(Clone, Copy, Debug, PartialEq, Eq)]
 pub struct Refusal {
     pub cause: Cause,
@@ -88,7 +89,8 @@ impl From<Cause> for Refusal {
 // What a calculation answers.
 pub type Answer = Result<Size, Refusal>;
 
-// The size of an endplate from a list of plates, or the first cause to refuse it.
+// The size of an endplate from a list of plates, or the first cause to refuse it. A call for each part, not one over a trait: each
+// promises numbers and inequalities of its own.
 pub fn endplate<P: Plate>(s: EndplateSheet, plates: &[P]) -> Answer
     ensures value { in_numbers result ≡ endplate_answer s (map P.thickness_of plates.now) }
     ensures numbers { let ps = map P.thickness_of plates.now in

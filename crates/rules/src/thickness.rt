@@ -5,7 +5,7 @@ ghost use Rattle.rules.specs.Bounds.{most_pressure, most_stress, most_diameter, 
 ghost use Rattle.rules.specs.Endplate.{endplate_thickness};
 ghost use Rattle.rules.specs.BlindFlange.{flange_thickness, edge_under, edge_thickness_of};
 
-// Form d of an endplate: the sheet's and C's own number.
+// Form d of an endplate, by the sheet's and C's own number: an enum would be made of it for this one test.
 const FORM_D: u32 = 3;
 
 // The factor of a bolt load, in tenths of a newton, and its lever C − G.

@@ -12,7 +12,7 @@ use lines::{Malformed, blind_flange, endplate, read_lines};
 use rules::{Answer, BlindFlangeSheet, Cause, EndplateSheet, Refusal};
 use text::{line_value, next_line};
 
-// Cause 1, with the number of the line at fault.
+// Cause 1, with the number of the line at fault. No `From`: both types are other crates'.
 fn refused(malformed: Malformed) -> Refusal
     ensures { result ≡ record { cause = Cause-as-Malformed; figure = malformed.line } }
 {
@@ -27,69 +27,15 @@ fn endplate_answer(lines: &[u8]) -> Answer
     ensures { Answered (read false (lines_of 2 (fields_of false) lines.now)) (in_numbers result) }
 {
     let read = read_lines(lines, &endplate::FIELDS).map_err(refused)?;
-    let [
-        form,
-        material,
-        shell,
-        temperature,
-        pressure,
-        diameter,
-        allowance,
-    ] = read.values;
-    let sheet = EndplateSheet {
-        form,
-        material,
-        shell,
-        temperature,
-        pressure,
-        diameter,
-        allowance,
-    };
-    rules::endplate(sheet, read.plates.as_slice())
+    rules::endplate(EndplateSheet::from(read.values), read.plates.as_slice())
 }
 
-// The same of a blind flange.
+// The same of a blind flange, whose fields, numbers and calculation are others.
 fn blind_flange_answer(lines: &[u8]) -> Answer
     ensures { Answered (read true (lines_of 2 (fields_of true) lines.now)) (in_numbers result) }
 {
     let read = read_lines(lines, &blind_flange::FIELDS).map_err(refused)?;
-    let [
-        material,
-        temperature,
-        pressure,
-        allowance,
-        od,
-        width,
-        rib,
-        rib_width,
-        m,
-        y,
-        circle,
-        bolt,
-        root,
-        count,
-        sa,
-        sb,
-    ] = read.values;
-    let sheet = BlindFlangeSheet {
-        material,
-        temperature,
-        pressure,
-        allowance,
-        od,
-        width,
-        rib,
-        rib_width,
-        m,
-        y,
-        circle,
-        bolt,
-        root,
-        count,
-        sa,
-        sb,
-    };
-    rules::blind_flange(sheet, read.plates.as_slice())
+    rules::blind_flange(BlindFlangeSheet::from(read.values), read.plates.as_slice())
 }
 
 // The part that a sheet is of.

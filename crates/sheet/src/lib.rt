@@ -14,7 +14,8 @@ ghost use Rattle.sheet.specs.Exact.{SheetExact};
 use answers::answer_to;
 use rules::Refusal;
 
-// What became of a sheet; `length` is that of its report.
+// What became of a sheet; `length` is that of its report. Three cases and no Result: a refused sheet has its report written, which
+// would be Ok, and an accepted one may have none, which would be Err.
 #[derive(Clone, Copy)]
 pub enum Outcome {
     // The report of an accepted sheet is written.

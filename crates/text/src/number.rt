@@ -2,7 +2,7 @@
 ghost use Rattle.std.specs.Prelude.{◌≡◌};
 ghost use Rattle.text.specs.Number.{number_of};
 
-// The number that v spells.
+// The number that v spells. Not `parse`, which takes a sign and leading zeros.
 #[tactic(auto, unfolding(crate::specs::Number::number_of))]
 pub fn read_number(v: &[u8]) -> Option<u32>
     ensures { result ≡ number_of v.now }

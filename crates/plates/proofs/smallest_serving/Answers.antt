@@ -1,26 +1,23 @@
--- `smallest_serving` meets its contract. Invariant: the choice so far, bettered by the rest of the list, is the
--- answer. Assumes nothing.
-use Rattle.std.proofs.Common.{refl, sym, ◌∙◌, drop_of_length-le}
-use Rattle.std.proofs.lemmas.List.{at_drop_more}
-use mathlib.Core.List.{List, foldl, map}
-use Rattle.plates.specs.Plates.{better, smallest_serving}
-use Rattle.plates.proofs.Laws.{as_chosen}
+-- `smallest_serving` meets its contract: what the chain picks is the definition's choice. Assumes nothing.
+use Rattle.std.proofs.Common.{sym, ◌∙◌, rules, tests}
+use Rattle.std.proofs.lemmas.Iterator.{YieldsList-from_slice, YieldsList-from_map}
+use Rattle.std.proofs.lemmas.Iterator.Adapters.{option_map_id}
+use Rattle.std.proofs.lemmas.Iterator.Consumers.{YieldsList-at, YieldsList-from_filter, min_from_yields_List}
+use mathlib.Core.List.{map}
+use Rattle.plates.specs.Plates.{serves}
+use Rattle.plates.proofs.Laws.{as_chosen, picked}
 use Rattle.plates.proofs.smallest_serving.Goals as goal
-
-pub loop-plate-init : goal.loop-plate-init
-unfolding smallest_serving
-loop-plate-init g c = refl
-
-pub loop-plate-preserved : goal.loop-plate-preserved
-loop-plate-preserved g c =
-    let l = c.loop-plate in
-    let after = λ (ps : List g.row.P.Denot). foldl (better c.args.total) l.choice (map g.P.Plate.thickness_of ps) in
-    let one = at_drop_more after c.args.plates.now l.plate-index c.plate-item.result c.loop-plate-test.true in
-    rw (c.better_of-choice.ensures, c.thickness.ensures) (l.invariant ∙ (rw (← c.plate-item.is) at one))
 
 pub returns : goal.returns
 returns g c =
-    let l = c.loop-plate in
-    let at_end = drop_of_length-le c.args.plates.now c.loop-plate-test.false in
-    let chosen = as_chosen c.args.total (map g.P.Plate.thickness_of c.args.plates.now) (sym (rw at_end at l.invariant)) in
+    let total = c.args.total in
+    let thickness_of = g.P.Plate.thickness_of in
+    let least = sym (option_map_id _) ∙ min_from_yields_List c.filter.result _ c.min.ensures.ran
+    (YieldsList-from_filter _ (serves total)
+    (YieldsList-at c.filter.ensures.source
+    (YieldsList-from_map _ thickness_of (YieldsList-from_slice c.args.plates.now cc) c.map.ensures.closure (λ x r q k. search (rules, tests))))
+    c.filter.ensures.closure (λ x r q k. search (rules, tests)))
+    in
+    let plates = map thickness_of c.args.plates.now in
+    let chosen = as_chosen total plates (least ∙ picked total plates) in
     record { value = chosen.0; smallest = chosen.1 }
