@@ -5,7 +5,7 @@ ghost use Rattle.capi.specs.Places.{figure_at};
 
 use rules::{Answer, BlindFlangeFigures, EndplateFigures, Refusal, Size};
 
-// The figure at a place of a list; 0 past its end. A plate stands in its list by `as`: with `u64::from` the proof did not close.
+// The figure at a place of a list; 0 past its end. In both lists the plate is made a u64 by `as`: with `u64::from` no proof closes.
 fn at(figures: &[u64], place: u32) -> u64
     ensures { result ≡ get_or figures.now place 0 }
 {

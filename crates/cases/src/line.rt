@@ -1,7 +1,7 @@
 // A line of vectors: numbers with single spaces between, and in some kinds a text after them.
 use std::alloc::{AllocError, Allocator};
 
-// The number that the digits spell; one of 2^64 and more is not meant. Not `parse`: a text is read so too.
+// The number that the digits spell; one of 2^64 and more is not meant. Not `parse`, which would refuse the text of a line.
 fn decimal(digits: &[u8]) -> u64 {
     digits.iter().fold(0u64, |value, digit| {
         value.wrapping_mul(10).wrapping_add(u64::from(*digit % 16))

@@ -27,7 +27,7 @@ enum Kind {
     BlindFlangeStandard,
 }
 
-// The kind of no vector.
+// A number that names no kind.
 #[derive(Clone, Copy, Debug)]
 struct NoSuchKind;
 
@@ -90,7 +90,7 @@ fn work(rt: &(impl Print + Alloc), line: &[u8]) -> io::Result<()> {
 pub(crate) fn run(rt: &(impl Print + Alloc), input: impl Read + Drop) -> io::Result<()> {
     let mut input = BufReader::new(rt.alloc(), input)?;
     let mut line = Vec::new(rt.alloc());
-    // More lines than any input has.
+    // More lines than any input has: a `loop` has to have a measure.
     for _ in 0..u64::MAX {
         line.clear();
         input

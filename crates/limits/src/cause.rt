@@ -39,7 +39,7 @@ impl Cause {
     ghost use Rattle.std.specs.Prelude.{◌≡◌};
     ghost use Rattle.limits.specs.Cause.{number_of};
 
-    // Document 01's number; by name, since the promises cite it.
+    // Document 01's number. No `From`: by its name it says which number it is.
     pub fn number(self) -> u32
         ensures { result ≡ number_of self }
     {

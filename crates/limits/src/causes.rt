@@ -104,7 +104,8 @@ fn refuse_if(applies: bool, cause: Cause) -> Result<(), Cause>
     if applies { Err(cause) } else { Ok(()) }
 }
 
-// The stress of an endplate whose numbers are within their limits, or the first cause that applies but for 14, in checking order.
+// The stress of an endplate whose numbers are within their limits, or the first cause that applies but for 14, in checking
+// order.
 #[tactic(auto, unfolding(crate::specs::Causes::first_of, crate::specs::Limits::endplate_causes))]
 pub fn endplate_limits(s: EndplateSheet) -> Result<u32, Cause>
     ensures cause { cause_number result ≡ first_cause (endplate_causes s) }

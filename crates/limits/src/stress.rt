@@ -3,7 +3,8 @@ ghost use Rattle.std.specs.Prelude.{◌≡◌};
 ghost use Rattle.tables.specs.DesignStress.{nonzero};
 ghost use Rattle.limits.specs.Stress.{endplate_stress};
 
-// Form a of an endplate, whose shell is not in use. A number: the form is a sheet's and C's own, of any value until it is tested.
+// Form a of an endplate, whose shell is not in use. A number: the form is a sheet's and C's own, of any value until it is
+// tested.
 pub(crate) const FORM_A: u32 = 1;
 
 // F: the stress of an endplate, N/mm²; None where a material in use has none.

@@ -15,7 +15,7 @@ use rules::Answer;
 pub const LONGEST: usize = 319;
 
 // The length of the answer's report. Where it fits, the report stands in `out` from index `at` on; where it does not,
-// `out` is as it was; the length is answered all the same, as C's call does.
+// `out` is as it was. The length is answered all the same, for a caller who asks again with more space.
 pub fn write(answer: Answer, out: &mut [u8], at: usize) -> usize
     ensures value { result ≡ length (report_text (in_numbers answer)) }
     ensures content { out.new ≡ laid at (report_text (in_numbers answer)) out.old }

@@ -4,7 +4,8 @@
 ghost use Rattle.std.specs.Prelude.{◌≡◌, ◌+◌, ◌*◌, ◌/◌, ◌%◌, ◌^◌, ◌≤◌, ◌<◌};
 ghost use Rattle.root.specs.Root.{ceil_div, least_root, least_root_over};
 
-// The answer where the divisor or the factor is 0. Not an Option: no caller has such a one, and each would have to say so.
+// The answer where the divisor or the factor is 0. Not an Option: what `rules` divides by is never 0, and each of its calls would
+// have to say so.
 const OVER_ZERO: u64 = 0;
 
 // The least q with n <= d * q; OVER_ZERO where d is 0.
@@ -35,7 +36,7 @@ fn low_bits(n: u64, bits: u32) -> u64
     n - ((n >> bits) << bits)
 }
 
-// x with one digit more, in base 4.
+// x with one digit more, in base 4, by a shift and a sum (R-5).
 fn with_digit(x: u64, digit: u64) -> u64
     requires { (x < 2 ^ 32) × (digit < 4) }
     ensures { result ≡ 4 * x + digit }

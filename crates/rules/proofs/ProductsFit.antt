@@ -1,4 +1,4 @@
--- The products of the calculations, under the bounds that the functions ask for: each is at most the product of its bounds.
+-- The products of the calculations, under the bounds that functions ask for and structs hold: each is at most the product of its bounds.
 -- Assumes nothing.
 use Prim.Native.Nat.{ℕ, ◌+◌, ◌-◌, ◌*◌, ◌≤◌}
 use native.Mathlib.Nat.{mul-le-mul}

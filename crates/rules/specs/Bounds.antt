@@ -1,5 +1,6 @@
 -- Bounds under which the products of the calculations fit 64 bits: powers of two above the limits, which stand in the
--- crate limits alone. Only what private functions ask for cites them, and the proofs: a wider limit changes them here.
+-- crate limits alone. Only what private functions ask for and private structs hold cites them, and the proofs:
+-- a wider limit changes them here.
 use Rattle.std.specs.Prelude.{ℕ, ◌^◌, ◌≤◌}
 
 -- P, thousandths of N/mm²
@@ -62,7 +63,7 @@ most_load = 2 ^ 33
 abbrev pub most_thickness : ℕ
 most_thickness = 2 ^ 32
 
--- ---- what the functions of the bolts ask
+-- ---- what a `Bolting` holds
 
 abbrev pub BoltsBounded : ℕ → ℕ → ℕ → ℕ → ℕ → Type 0
 BoltsBounded Wm1 Wm2 A sa sb =

@@ -34,7 +34,7 @@ fn effective_width(width: u32) -> u64
     }
 }
 
-// G in tenths of a mm: 2·b inside the outside contact diameter, 0 where there is no room.
+// G in tenths of a mm: 2·b inside the outside contact diameter. 0 where there is no room, as the definition's difference is.
 fn reaction_diameter(od: u32, b: u64) -> u32
     ensures { result ≡ od - b / 5 }
 {

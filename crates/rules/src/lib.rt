@@ -57,7 +57,8 @@ pub struct BlindFlangeFigures {
     pub total: u64,
 }
 
-// A part sized: the figures of its report, and the plate chosen.
+// A part sized: the figures of its report, and the plate chosen. Side by side, since a list is made of the figures and the plate
+// comes last.
 #[derive(Clone, Copy)]
 pub enum Size {
     Endplate {
@@ -89,8 +90,8 @@ impl From<Cause> for Refusal {
 // What a calculation answers.
 pub type Answer = Result<Size, Refusal>;
 
-// The size of an endplate from a list of plates, or the first cause to refuse it. A call for each part, not one over a trait: each
-// promises numbers and inequalities of its own.
+// The size of an endplate from a list of plates, or the first cause to refuse it. A call for each part, not one over a trait:
+// each promises numbers and inequalities of its own.
 pub fn endplate<P: Plate>(s: EndplateSheet, plates: &[P]) -> Answer
     ensures value { in_numbers result ≡ endplate_answer s (map P.thickness_of plates.now) }
     ensures numbers { let ps = map P.thickness_of plates.now in

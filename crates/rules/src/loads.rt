@@ -19,7 +19,7 @@ pub(crate) struct Contact {
 }
 
 impl Contact {
-    // Wm1.
+    // Wm1. P's bound stands here as in thickness.rt.
     #[tactic(auto, unfolding(crate::specs::Loads::operating_load_of, crate::specs::Loads::exact_operating_load))]
     pub(crate) fn operating_load(self, m: u32, pressure: u32) -> u64
         requires { (m ≤ most_factor) × (pressure ≤ most_pressure) }

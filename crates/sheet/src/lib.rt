@@ -14,8 +14,8 @@ ghost use Rattle.sheet.specs.Exact.{SheetExact};
 use answers::answer_to;
 use rules::Refusal;
 
-// What became of a sheet; `length` is that of its report. Three cases and no Result: a refused sheet has its report written, which
-// would be Ok, and an accepted one may have none, which would be Err.
+// What became of a sheet; `length` is that of its report. Three cases and no Result: a refused sheet has its report written,
+// which would be Ok, and an accepted one may have none, which would be Err.
 #[derive(Clone, Copy)]
 pub enum Outcome {
     // The report of an accepted sheet is written.
@@ -39,7 +39,8 @@ impl Outcome {
     }
 }
 
-// Answers the sheet in `text`, and writes its report to the front of `out`.
+// Answers the sheet in `text`, and writes its report to the front of `out`. Its promises stand again at `write_report` and at C's
+// call, each of which is called by itself.
 pub fn answer(text: &[u8], out: &mut [u8]) -> Outcome
     ensures value { in_numbers result ≡ outcome_of text.now out.old }
     ensures numbers { let t = text.now in

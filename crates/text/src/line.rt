@@ -22,7 +22,7 @@ pub fn line_value<'a>(t: &'a [u8], key: &[u8]) -> Option<&'a [u8]>
 {
     let end = first(t, LINE_FEED)?;
     let value = t.strip_prefix(key)?.strip_prefix(&[EQUALS])?;
-    // Of a key with an LF in it the line ends before its value begins.
+    // Where the key has an LF in it, the line ends before its value begins.
     Some(&value[..end.saturating_sub(key.len() + 1)])
 }
 

@@ -1,4 +1,4 @@
--- An array that is filled with a list, number by number. Assumes nothing.
+-- An array that is filled with a list, number by number, for a caller that has such a one. Assumes nothing.
 use Rattle.std.specs.Prelude.{ℕ, suc, ◌+◌, ◌-◌, ◌≤◌, ◌<◌, List, ◌∷◌, ◌≡◌, length, take, drop, set, get_or, replicate}
 use Rattle.std.proofs.Common.{sym, ap, ◌∙◌, add-one, arith, take-append-drop, drop-cons, drop-set-lt, length-take-le}
 use Rattle.text.specs.Padded.{padded}
