@@ -4,9 +4,7 @@ use Rattle.std.proofs.lemmas.List.{map-id}
 use Rattle.capi.proofs.ExactByPlace.{flange_placed}
 use Rattle.capi.proofs.scantling_blind_flange_standard.Goals as goal
 
-pub returns : goal.returns
-returns c =
+pub returns-clause-exact : goal.returns-clause-exact
+returns-clause-exact c =
     let answer = c.blind_flange.ensures in
-    let sheet = c.blind_flange_call-sheet.ensures in
-    let placed = flange_placed _ (map-id _ ∙ c.standard_plates.ensures) sheet answer.value answer.exact c.figure_at.ensures in
-    record { figure = placed.0; exact = placed.1 }
+    (flange_placed _ (map-id _ ∙ c.standard_plates.ensures) c.blind_flange_call-sheet.ensures answer.value answer.exact c.figure_at.ensures).1

@@ -4,9 +4,7 @@ use Rattle.std.proofs.lemmas.List.{map-id}
 use Rattle.capi.proofs.ExactByPlace.{endplate_placed}
 use Rattle.capi.proofs.scantling_endplate_standard.Goals as goal
 
-pub returns : goal.returns
-returns c =
+pub returns-clause-exact : goal.returns-clause-exact
+returns-clause-exact c =
     let answer = c.endplate.ensures in
-    let sheet = c.endplate_call-sheet.ensures in
-    let placed = endplate_placed _ (map-id _ ∙ c.standard_plates.ensures) sheet answer.value answer.exact c.figure_at.ensures in
-    record { figure = placed.0; exact = placed.1 }
+    (endplate_placed _ (map-id _ ∙ c.standard_plates.ensures) c.endplate_call-sheet.ensures answer.value answer.exact c.figure_at.ensures).1
