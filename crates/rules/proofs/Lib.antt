@@ -1,4 +1,5 @@
--- Laws: for callers. EndplateLeast: the law of "least with" for an endplate. The others: what the proofs of the functions cite.
+-- Laws: for callers. EndplateLeast: the law of "least with" for an endplate. The others: what the proofs of the functions
+-- cite.
 pub mod Laws
 mod EndplateLeast
 mod ProductsFit

@@ -1,5 +1,5 @@
--- The products of the calculations, under the bounds that functions ask for and structs hold: each is at most the product of its bounds.
--- Assumes nothing.
+-- The products of the calculations, under the bounds that functions ask for and structs hold: each is at most the product of
+-- its bounds. Assumes nothing.
 use Prim.Native.Nat.{ℕ, ◌+◌, ◌-◌, ◌*◌, ◌≤◌}
 use native.Mathlib.Nat.{mul-le-mul}
 use native.Mathlib.Omega.{arith}

@@ -1,5 +1,5 @@
-// Thicknesses, in hundredths of a mm. The bounds asked for are wider than the limits: with them the products fit. P's stands at
-// each of the three functions that take it: a type for one number would be no plainer.
+// Thicknesses, in hundredths of a mm. The bounds asked for are wider than the limits: with them the products fit. P's stands
+// at each of the three functions that take it: a type for one number would be no plainer.
 ghost use Rattle.std.specs.Prelude.{◌≡◌, ◌≤◌, ◌+◌};
 ghost use Rattle.rules.specs.Bounds.{most_pressure, most_stress, most_diameter, most_lever, most_load};
 ghost use Rattle.rules.specs.Endplate.{endplate_thickness};

@@ -2,9 +2,7 @@
 use Rattle.std.specs.Prelude.{ℕ, Bool, true, not, ◌&&◌, ◌||◌, cond, List, [], ◌∷◌, ◌≡◌, refl, eqb}
 use Prim.Native.String.{String}
 use Rattle.std.proofs.Math.Bool.{and-eq-true_iff}
-use mathlib.Mathlib.Data.Bool.Basic.{or-eq-false-eq-eq-false-and-eq-false}
 use Rattle.std.proofs.Common.{ap, ◌∙◌}
-use Rattle.std.proofs.lemmas.Bool.{not-true}
 use Rattle.rules.specs.Answer.{Answer}
 use Rattle.rules.specs.Answer.{Endplate, BlindFlange, Refused}
 use Rattle.std.proofs.Common.{ap, ◌∙◌, arith}
