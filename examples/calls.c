@@ -3,11 +3,13 @@
 
 #include <stdio.h>
 
-/* Plates of 25.00, 32.00 and 40.00 mm, and the bytes in which the calls take them. */
-static const uint32_t thicknesses[] = {2500, 3200, 4000};
-static uint8_t plates[sizeof thicknesses];
+/* Plates, two numbers each: nominal thickness and minus tolerance, hundredths of a mm. The first three have no minus, the
+   others may be 0.30 mm thinner. Below them the bytes in which the calls take them. */
+static const uint32_t exact_numbers[] = {2500, 0, 3200, 0, 4000, 0};
+static const uint32_t mill_numbers[] = {2500, 30, 2520, 30, 2540, 30};
+static uint8_t plates[3 * SCANTLING_PLATE_BYTES], mill_plates[3 * SCANTLING_PLATE_BYTES];
 
-/* Packs thicknesses for the calls: four bytes each, lowest first. */
+/* Packs the numbers of plates for the calls: four bytes each, lowest first. */
 static void pack(const uint32_t *from, size_t count, uint8_t *to)
 {
     size_t i;
@@ -27,6 +29,13 @@ static unsigned long blind_flange(uint32_t place)
 {
     return (unsigned long)scantling_blind_flange(
         1, 150, 1000, 100, 5000, 100, 0, 0, 200, 110, 5600, 20, 2250, 16, 100, 100, plates, sizeof plates, place);
+}
+
+/* The same end from plates with a minus. */
+static unsigned long endplate_mill(uint32_t place)
+{
+    return (unsigned long)scantling_endplate(
+        2, 1, 1, 150, 1000, 5000, 100, mill_plates, sizeof mill_plates, place);
 }
 
 /* The same end from the usual stock: the call takes no list. */
@@ -54,7 +63,8 @@ int main(void)
     uint8_t report[SCANTLING_LONGEST_REPORT];
     size_t length = scantling_sheet(text, sizeof text - 1, report, sizeof report);
 
-    pack(thicknesses, sizeof thicknesses / sizeof thicknesses[0], plates);
+    pack(exact_numbers, sizeof exact_numbers / sizeof exact_numbers[0], plates);
+    pack(mill_numbers, sizeof mill_numbers / sizeof mill_numbers[0], mill_plates);
     if (endplate(SCANTLING_CAUSE) == SCANTLING_ACCEPTED)
         printf("endplate: thickness %lu, plate %lu\n", endplate(SCANTLING_ENDPLATE_THICKNESS),
                endplate(SCANTLING_ENDPLATE_PLATE));
@@ -63,6 +73,7 @@ int main(void)
                blind_flange(SCANTLING_BLIND_FLANGE_THICKNESS), blind_flange(SCANTLING_BLIND_FLANGE_EDGE_THICKNESS),
                blind_flange(SCANTLING_BLIND_FLANGE_PLATE), blind_flange(SCANTLING_BLIND_FLANGE_FLANGE_LOAD) / 10,
                blind_flange(SCANTLING_BLIND_FLANGE_FLANGE_LOAD) % 10);
+    printf("from plates with a minus: endplate %lu\n", endplate_mill(SCANTLING_ENDPLATE_PLATE));
     printf("from the usual stock: endplate %lu, blind flange %lu\n", endplate_standard(SCANTLING_ENDPLATE_PLATE),
            blind_flange_standard(SCANTLING_BLIND_FLANGE_PLATE));
     printf("endplate without a plate: total %lu\n", endplate_total());

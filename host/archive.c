@@ -37,8 +37,11 @@ const struct archive_call archive_calls[PARTS] = {
     [PART_BLIND] = {"scantling_blind_flange", blind_flange, "scantling_blind_flange_standard", blind_flange_standard},
 };
 
-void pack_plates(const uint32_t *plates, size_t count, uint8_t *bytes)
+void pack_plates(const struct paper_plate *plates, size_t count, uint8_t *bytes)
 {
-    for (size_t i = 0; i < 4 * count; i++)
-        bytes[i] = (uint8_t)(plates[i / 4] >> 8 * (i % 4));
+    for (size_t i = 0; i < PAPER_PLATE_BYTES * count; i++) {
+        const struct paper_plate *plate = &plates[i / PAPER_PLATE_BYTES];
+        const uint32_t number = i % PAPER_PLATE_BYTES < 4 ? plate->thickness : plate->under_tolerance;
+        bytes[i] = (uint8_t)(number >> 8 * (i % 4));
+    }
 }

@@ -12,7 +12,7 @@ struct archive_call {
 };
 extern const struct archive_call archive_calls[PARTS]; /* nothing for PART_NONE */
 
-/* Plates as the calls take them: four bytes each, lowest first. */
-void pack_plates(const uint32_t *plates, size_t count, uint8_t *bytes);
+/* Plates as the calls take them: PAPER_PLATE_BYTES each. */
+void pack_plates(const struct paper_plate *plates, size_t count, uint8_t *bytes);
 
 #endif

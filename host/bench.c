@@ -25,13 +25,27 @@
 
 struct input {
     uint32_t n[BLIND_NUMBERS];
-    uint8_t plates[4 * PLATES];
+    uint8_t plates[PAPER_PLATE_BYTES * PLATES];
     struct text sheet;
 };
-static struct input inputs[PARTS][INPUTS];
+enum { EXACT, MINUS, MINUSES }; /* all plates without a minus, or all with one */
+static struct input inputs[PARTS][MINUSES][INPUTS];
 static uint64_t long_numbers[INPUTS], short_numbers[INPUTS];
 
-static void draw_input(struct rng *rng, enum part part, struct input *input)
+static void keep_input(struct question *question, uint32_t minus, struct input *input)
+{
+    for (size_t i = 0; i < PLATES; i++) {
+        question->plates[i].thickness += minus;
+        question->plates[i].under_tolerance = minus;
+    }
+    question->colons = 0;
+    memcpy(input->n, question->numbers, sizeof input->n);
+    pack_plates(question->plates, PLATES, input->plates);
+    write_sheet(question, &input->sheet);
+}
+
+/* With a minus or without, what is left of each plate is the thickness drawn. */
+static void draw_input(struct rng *rng, enum part part, size_t number)
 {
     static struct question question;
     const struct wish nothing = wish_nothing();
@@ -41,9 +55,8 @@ static void draw_input(struct rng *rng, enum part part, struct input *input)
         draw_plates(rng, PLATES, PLATES, &question);
         question_figures(&question, figures);
     } while (figures[PLACE_CAUSE] != CAUSE_NONE);
-    memcpy(input->n, question.numbers, sizeof input->n);
-    pack_plates(question.plates, PLATES, input->plates);
-    write_sheet(&question, &input->sheet);
+    keep_input(&question, 0, &inputs[part][EXACT][number]);
+    keep_input(&question, 30, &inputs[part][MINUS][number]);
 }
 
 static void draw_inputs(void)
@@ -51,7 +64,7 @@ static void draw_inputs(void)
     struct rng rng = {8532};
     for (size_t i = 0; i < INPUTS; i++) {
         for (enum part part = PART_NONE + 1; part < PARTS; part++)
-            draw_input(&rng, part, &inputs[part][i]);
+            draw_input(&rng, part, i);
         long_numbers[i] = rng_of_length(&rng, rng_below(&rng, 65));
         short_numbers[i] = rng_of_length(&rng, 16 + rng_below(&rng, 19));
     }
@@ -61,7 +74,8 @@ static void draw_inputs(void)
 
 struct pass {
     uint64_t (*run)(const struct pass *pass); /* null where there is none */
-    enum part part;                           /* of calls and sheets */
+    const struct input *inputs;               /* of calls and sheets */
+    enum part part;                           /* of calls */
     size_t (*sheet)(const uint8_t *text, size_t length, uint8_t *out, size_t out_length);
     const uint64_t *numbers;                  /* of roots */
     uint64_t (*root)(uint64_t n);
@@ -73,7 +87,7 @@ static uint64_t archive_figures(const struct pass *pass)
     const uint32_t place = paper_parts[pass->part].last_place;
     uint64_t sum = 0;
     for (size_t i = 0; i < INPUTS; i++) {
-        const struct input *input = &inputs[pass->part][i];
+        const struct input *input = &pass->inputs[i];
         sum += archive_calls[pass->part].figure(input->n, input->plates, sizeof input->plates, place);
     }
     return sum;
@@ -83,9 +97,9 @@ static uint64_t separate_figures(const struct pass *pass)
 {
     const uint32_t place = paper_parts[pass->part].last_place;
     uint64_t sum = 0, figures[PAPER_PLACES];
-    uint32_t plates[PLATES];
+    struct paper_plate plates[PLATES];
     for (size_t i = 0; i < INPUTS; i++) {
-        const struct input *input = &inputs[pass->part][i];
+        const struct input *input = &pass->inputs[i];
         size_t count = paper_plates(input->plates, sizeof input->plates, plates, PLATES);
         paper_parts[pass->part].work(input->n, plates, count, figures);
         sum += figures[place];
@@ -99,7 +113,7 @@ static uint64_t reports(const struct pass *pass)
     uint8_t report[SCANTLING_LONGEST_REPORT];
     uint64_t sum = 0;
     for (size_t i = 0; i < INPUTS; i++) {
-        const struct text *sheet = &inputs[pass->part][i].sheet;
+        const struct text *sheet = &pass->inputs[i].sheet;
         size_t length = pass->sheet(sheet->bytes, sheet->length, report, sizeof report);
         sum += length + report[length - 2];
     }
@@ -137,9 +151,12 @@ struct work {
     struct pass passes[3]; /* archive, separate program, floating point if any */
 };
 
-#define CALLS(of) {{.run = archive_figures, .part = of}, {.run = separate_figures, .part = of}}
-#define SHEETS(of) \
-    {{.run = reports, .part = of, .sheet = scantling_sheet}, {.run = reports, .part = of, .sheet = paper_sheet}}
+#define CALLS(of)                                                        \
+    {{.run = archive_figures, .inputs = inputs[of][EXACT], .part = of}, \
+     {.run = separate_figures, .inputs = inputs[of][EXACT], .part = of}}
+#define SHEETS(of, minus)                                                       \
+    {{.run = reports, .inputs = inputs[of][minus], .sheet = scantling_sheet}, \
+     {.run = reports, .inputs = inputs[of][minus], .sheet = paper_sheet}}
 #define ROOTS(of)                                                 \
     {{.run = roots, .numbers = of, .root = scantling_least_root}, \
      {.run = roots, .numbers = of, .root = search_root},          \
@@ -148,8 +165,10 @@ struct work {
 static const struct work works[] = {
     {"endplate calls", CALLS(PART_END)},
     {"blind flange calls", CALLS(PART_BLIND)},
-    {"endplate sheets", SHEETS(PART_END)},
-    {"blind flange sheets", SHEETS(PART_BLIND)},
+    {"endplate sheets", SHEETS(PART_END, EXACT)},
+    {"blind flange sheets", SHEETS(PART_BLIND, EXACT)},
+    {"endplate sheets, minus", SHEETS(PART_END, MINUS)},
+    {"blind flange sheets, minus", SHEETS(PART_BLIND, MINUS)},
     {"least roots, 0 to 64 bits", ROOTS(long_numbers)},
     {"least roots, 16 to 34 bits", ROOTS(short_numbers)},
 };

@@ -48,15 +48,15 @@ static void compare_known_sheet(size_t number, const struct text *text)
 static void compare_known_case(struct compare *compare, size_t number)
 {
     static struct question question;
-    static uint8_t plates[4 * PLATES_ROOM];
+    static uint8_t plates[PAPER_PLATE_BYTES * PLATES_ROOM];
     static struct text text;
     const struct known *known = &known_cases[number];
     uint64_t figures[PAPER_PLACES];
     known_question(known, &question);
     question_figures(&question, figures);
     pack_plates(question.plates, question.plate_count, plates);
-    uint64_t archive =
-        archive_calls[known->part].figure(question.numbers, plates, 4 * question.plate_count, known->place);
+    uint64_t archive = archive_calls[known->part].figure(
+        question.numbers, plates, PAPER_PLATE_BYTES * question.plate_count, known->place);
     if (figures[known->place] != known->figure)
         differ(number, "the separate program", figures[known->place]);
     if (archive != known->figure)
@@ -68,18 +68,18 @@ static void compare_known_case(struct compare *compare, size_t number)
     compare_spaces(compare, &text);
 }
 
-/* A sheet whose whole report the document prints. */
-static void compare_printed(struct compare *compare, const char *sheet, const char *report)
+/* A sheet whose whole report is known. */
+static void compare_printed(struct compare *compare, const struct known_sheet *known)
 {
     static struct text text;
     uint8_t archive[PAPER_REPORT_ROOM], separate[PAPER_REPORT_ROOM];
-    const size_t length = strlen(report);
-    text.length = strlen(sheet);
-    memcpy(text.bytes, sheet, text.length);
+    const size_t length = strlen(known->report);
+    text.length = strlen(known->sheet);
+    memcpy(text.bytes, known->sheet, text.length);
     if (scantling_sheet(text.bytes, text.length, archive, sizeof archive) != length ||
         paper_sheet(text.bytes, text.length, separate, sizeof separate) != length ||
-        memcmp(archive, report, length) != 0 || memcmp(separate, report, length) != 0) {
-        printf("difference: not the document's report of the sheet\n%s", sheet);
+        memcmp(archive, known->report, length) != 0 || memcmp(separate, known->report, length) != 0) {
+        printf("difference: the report of the sheet\n%sis to be\n%s", known->sheet, known->report);
         exit(1);
     }
     compare_sheet(compare, &text);
@@ -90,22 +90,28 @@ static void compare_known(struct compare *compare)
 {
     for (size_t number = 0; number < known_count; number++)
         compare_known_case(compare, number);
-    compare_printed(compare, known_sheet, known_report);
-    compare_printed(compare, "", known_empty_report);
+    for (size_t number = 0; number < known_sheet_count; number++)
+        compare_printed(compare, &known_sheets[number]);
 }
 
 /* ---- Limits ---- */
 
-/* These numbers with some plates, as numbers and as a sheet. */
-static void compare_both(struct compare *compare, struct question *question)
+/* A question as numbers and as a sheet. */
+static void compare_both(struct compare *compare, const struct question *question)
 {
     static struct text text;
-    draw_plates(&compare->rng, 0, PAPER_SHEET_PLATES, question);
-    if (rng_one_in(&compare->rng, 4))
-        give_standard_plates(question);
     write_sheet(question, &text);
     compare_question(compare, question);
     compare_sheet(compare, &text);
+}
+
+/* These numbers with some plates, likewise. */
+static void compare_with_plates(struct compare *compare, struct question *question)
+{
+    draw_plates(&compare->rng, 0, PAPER_SHEET_PLATES, question);
+    if (rng_one_in(&compare->rng, 4))
+        give_standard_plates(question);
+    compare_both(compare, question);
 }
 
 static void compare_limit(struct compare *compare, const struct limit *limit, int step)
@@ -113,6 +119,29 @@ static void compare_limit(struct compare *compare, const struct limit *limit, in
     static struct question question;
     for (int round = 0; round < LIMIT_ROUNDS; round++) {
         draw_limit(&compare->rng, limit, step, &question);
+        compare_with_plates(compare, &question);
+    }
+}
+
+/* The least end and numbers of both parts from this list. */
+static void compare_plate_limit(struct compare *compare, const struct plate_limit *limit)
+{
+    static struct question question;
+    const struct wish nothing = wish_nothing();
+    give_least_end(&question);
+    for (int round = 0; round < LIMIT_ROUNDS; round++) {
+        give_plate_limit(limit, &question);
+        compare_both(compare, &question);
+        draw_numbers(&compare->rng, draw_part(&compare->rng), &nothing, &question);
+    }
+}
+
+/* About what is left of a plate of the usual stock, and about its thickness. */
+static void compare_stock_limit(struct compare *compare, size_t plate)
+{
+    static struct question question;
+    for (int step = -1; step <= 31; step = step == 1 ? 29 : step + 1) {
+        give_stock_limit(plate, step, &question);
         compare_both(compare, &question);
     }
 }
@@ -122,6 +151,10 @@ static void compare_limits(struct compare *compare)
     for (size_t i = 0; i < limit_count; i++)
         for (int step = -1; step <= 1; step++)
             compare_limit(compare, &limits[i], step);
+    for (size_t i = 0; i < plate_limit_count; i++)
+        compare_plate_limit(compare, &plate_limits[i]);
+    for (size_t plate = 0; plate < PAPER_STANDARD_PLATES; plate++)
+        compare_stock_limit(compare, plate);
 }
 
 /* ---- Thin flanges ---- */
@@ -131,7 +164,7 @@ static void compare_thin(struct compare *compare)
     static struct question question;
     for (int round = 0; round < THIN_ROUNDS; round++) {
         draw_thin_flange(&compare->rng, &question);
-        compare_both(compare, &question);
+        compare_with_plates(compare, &question);
     }
 }
 
@@ -182,6 +215,16 @@ static void print_causes(const char *name, const uint64_t accepted[PARTS], const
     printf("\n");
 }
 
+static void print_plates(const char *name, const struct plate_counts *counts)
+{
+    printf("%s: plates chosen with a minus %" PRIu64 ", with no more left than the total %" PRIu64
+           ", of the usual stock %" PRIu64 "; past a thinner one that serves but for its minus %" PRIu64
+           ", beside one of a minus above its thickness %" PRIu64 "; first of equals of other minus that serve %" PRIu64
+           ", after an equal that does not %" PRIu64 "\n",
+           name, counts->with_minus, counts->just, counts->standard, counts->too_thin, counts->minus_above,
+           counts->first_of_equals, counts->after_equal);
+}
+
 static void print_counts(const struct compare *compare)
 {
     printf("%" PRIu64 " numeric calls, %" PRIu64 " sheets, %" PRIu64 " other spaces, %" PRIu64 " roots, %" PRIu64
@@ -191,9 +234,16 @@ static void print_counts(const struct compare *compare)
            " on bolts that would not carry whole newtons\n",
            compare->thin, compare->fraction);
     printf("%" PRIu64 " numeric questions without a list; sheets in order %" PRIu64 " with a list, %" PRIu64
-           " with the usual stock, %" PRIu64 " with none\n",
+           " with the usual stock, %" PRIu64 " with none; of the lists %" PRIu64 " with a colon at some entries, %" PRIu64
+           " at all\n",
            compare->standard, compare->stocks[PAPER_LISTED], compare->stocks[PAPER_STANDARD],
-           compare->stocks[PAPER_NONE]);
+           compare->stocks[PAPER_NONE], compare->some_colons, compare->all_colons);
+    print_plates("numeric questions", &compare->question_plates);
+    print_plates("sheets", &compare->sheet_plates);
+    printf("bytes over at numeric questions:");
+    for (size_t over = 0; over < PAPER_PLATE_BYTES; over++)
+        printf(" %lu:%" PRIu64, (unsigned long)over, compare->over[over]);
+    printf("\n");
     print_causes("numeric questions", compare->question_accepted, compare->question_causes);
     print_causes("sheets", compare->sheet_accepted, compare->sheet_causes);
     printf("no difference\n");

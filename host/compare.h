@@ -5,6 +5,17 @@
 #include "archive.h"
 #include "sheets.h"
 
+/* Accepted answers, by what the plate chosen is and what stands beside it in the list. */
+struct plate_counts {
+    uint64_t with_minus;
+    uint64_t just;            /* thickness less minus is the total, and there is a minus */
+    uint64_t standard;        /* of the usual stock */
+    uint64_t too_thin;        /* another would be chosen if no plate had a minus */
+    uint64_t minus_above;     /* in the list is a minus above its thickness */
+    uint64_t first_of_equals; /* a later plate of the same thickness and another minus serves too */
+    uint64_t after_equal;     /* an earlier plate of the same thickness does not serve */
+};
+
 struct compare {
     struct rng rng;
     uint64_t calls;    /* numeric calls, of one place each */
@@ -16,6 +27,9 @@ struct compare {
     uint64_t fraction; /* and those whose bolts carry the loads in tenths and would not carry them in whole newtons */
     uint64_t standard; /* questions of the calls without a list */
     uint64_t stocks[PAPER_STOCKS]; /* sheets that meet no cause 1, by what their plates line names */
+    uint64_t some_colons, all_colons; /* of them, those with a colon at some but not all entries of a list, or at all */
+    uint64_t over[PAPER_PLATE_BYTES]; /* questions with a list, by how many bytes are over */
+    struct plate_counts question_plates, sheet_plates;
     uint64_t question_accepted[PARTS], sheet_accepted[PARTS];
     uint64_t question_causes[CAUSES]; /* what the numeric calls were asked, by cause */
     uint64_t sheet_causes[CAUSES];    /* likewise; CAUSE_SPACE counts the short spaces */
@@ -27,6 +41,11 @@ void compare_drawn_question(struct compare *compare);
 
 /* An accepted answer is to be judged: the counts above. */
 void count_accuracy(struct compare *compare, enum part part, const uint32_t *numbers, const uint64_t *figures);
+
+/* The plate chosen, one of plates, for this total. */
+void count_plates(
+    struct plate_counts *counts, const struct paper_plate *plates, size_t count, uint64_t total,
+    const struct paper_plate *chosen);
 
 /* A sheet in a space that no report exceeds; now and then in shorter ones too. */
 void compare_sheet(struct compare *compare, const struct text *text);

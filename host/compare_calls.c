@@ -28,8 +28,8 @@ static void print_question(const struct asking *asking)
         return;
     printf(" plates=");
     for (size_t i = 0; i < question->plate_count; i++)
-        printf(i == 0 ? "%" PRIu32 : ",%" PRIu32, question->plates[i]);
-    printf(" and %u bytes over", (unsigned)(asking->plates_length % 4));
+        printf("%s%" PRIu32 ":%" PRIu32, i == 0 ? "" : ",", question->plates[i].thickness, question->plates[i].under_tolerance);
+    printf(" and %u bytes over", (unsigned)(asking->plates_length % PAPER_PLATE_BYTES));
 }
 
 static void compare_place(struct compare *compare, const struct asking *asking, uint32_t place)
@@ -71,6 +71,26 @@ void count_accuracy(struct compare *compare, enum part part, const uint32_t *num
                          area * numbers[BLIND_SA] < to_newton(figures[BLIND_SEATING_LOAD_PLACE]);
 }
 
+void count_plates(
+    struct plate_counts *counts, const struct paper_plate *plates, size_t count, uint64_t total,
+    const struct paper_plate *chosen)
+{
+    int too_thin = 0, minus_above = 0, after = 0, before = 0;
+    for (const struct paper_plate *plate = plates; plate < plates + count; plate++) {
+        const int serves = paper_serves(*plate, total), equal = plate->thickness == chosen->thickness;
+        too_thin |= !serves && plate->thickness >= total && plate->thickness < chosen->thickness;
+        minus_above |= plate->under_tolerance > plate->thickness;
+        after |= plate > chosen && equal && serves && plate->under_tolerance != chosen->under_tolerance;
+        before |= plate < chosen && equal;
+    }
+    counts->with_minus += chosen->under_tolerance > 0;
+    counts->just += chosen->under_tolerance > 0 && paper_least_thickness(*chosen) == (int64_t)total;
+    counts->too_thin += (uint64_t)too_thin;
+    counts->minus_above += (uint64_t)minus_above;
+    counts->first_of_equals += (uint64_t)after;
+    counts->after_equal += (uint64_t)before;
+}
+
 /* The figures judged are the archive's: their places were compared. */
 static void judge_question(struct compare *compare, const struct asking *asking)
 {
@@ -91,20 +111,34 @@ static void judge_question(struct compare *compare, const struct asking *asking)
     exit(1);
 }
 
-/* The plates in bytes, lowest first, and up to 3 bytes over. A list of no bytes is a null pointer half the time. */
+/* Bytes past the last plate: mostly the front of one as thick as is left of a plate in the list, else any. */
+static void write_over(struct compare *compare, const struct question *question, uint8_t *bytes, size_t over)
+{
+    uint8_t whole[PAPER_PLATE_BYTES];
+    rng_fill(&compare->rng, whole, sizeof whole);
+    if (question->plate_count > 0 && !rng_one_in(&compare->rng, 4)) {
+        const uint32_t like = rng_below(&compare->rng, (uint32_t)question->plate_count);
+        const struct paper_plate plate = {(uint32_t)paper_least_thickness(question->plates[like]), 0};
+        pack_plates(&plate, 1, whole);
+    }
+    memcpy(bytes, whole, over);
+}
+
+/* The plates in bytes, and up to 7 bytes over. A list of no bytes is a null pointer half the time. */
 static void write_plates(struct compare *compare, struct asking *asking)
 {
     const struct question *question = asking->question;
-    size_t over = rng_one_in(&compare->rng, 4) ? rng_below(&compare->rng, 4) : 0;
-    asking->plates_length = 4 * question->plate_count + over;
+    const size_t length = PAPER_PLATE_BYTES * question->plate_count;
+    const size_t over = rng_one_in(&compare->rng, 2) ? rng_below(&compare->rng, PAPER_PLATE_BYTES) : 0;
+    asking->plates_length = length + over;
     asking->plates = NULL;
     if (asking->plates_length == 0 && rng_one_in(&compare->rng, 2))
         return;
     asking->plates = malloc(asking->plates_length + (asking->plates_length == 0));
     if (asking->plates == NULL)
         exit(2);
-    rng_fill(&compare->rng, asking->plates, asking->plates_length);
     pack_plates(question->plates, question->plate_count, asking->plates);
+    write_over(compare, question, asking->plates + length, over);
 }
 
 static void compare_all_places(struct compare *compare, const struct asking *asking)
@@ -124,17 +158,29 @@ static void compare_some_places(struct compare *compare, const struct asking *as
     compare_place(compare, asking, rng_below(&compare->rng, PAPER_PLACES));
 }
 
+static void count_question(struct compare *compare, const struct asking *asking)
+{
+    const uint64_t cause = asking->figures[PLACE_CAUSE];
+    compare->question_causes[cause]++;
+    compare->standard += (uint64_t)asking->question->standard;
+    compare->question_plates.standard += asking->question->standard && cause == CAUSE_NONE;
+    if (!asking->question->standard)
+        compare->over[asking->plates_length % PAPER_PLATE_BYTES]++;
+}
+
 /* The paper's plates are read from the bytes, as the archive's are; the call without a list is not given them. */
 void compare_question(struct compare *compare, const struct question *question)
 {
-    static uint32_t plates[PLATES_ROOM];
+    static struct paper_plate plates[PLATES_ROOM];
+    const struct paper_part *part = &paper_parts[question->part];
     struct asking asking;
     asking.question = question;
     write_plates(compare, &asking);
     size_t count = paper_plates(asking.plates, asking.plates_length, plates, PLATES_ROOM);
-    paper_parts[question->part].work(question->numbers, plates, count, asking.figures);
-    compare->question_causes[asking.figures[PLACE_CAUSE]]++;
-    compare->standard += (uint64_t)question->standard;
+    const struct paper_plate *chosen = part->work(question->numbers, plates, count, asking.figures);
+    count_question(compare, &asking);
+    if (chosen != NULL)
+        count_plates(&compare->question_plates, plates, count, asking.figures[part->total_place], chosen);
     if (rng_one_in(&compare->rng, 4))
         compare_all_places(compare, &asking);
     else
@@ -143,12 +189,22 @@ void compare_question(struct compare *compare, const struct question *question)
     free(asking.plates);
 }
 
-/* Some plates anywhere up to 2^32 - 1. */
+/* Anywhere up to 2^32 - 1, often near it. */
+static uint32_t spread_number(struct rng *rng)
+{
+    const uint32_t below_end = rng_below(rng, 100000);
+    return rng_one_in(rng, 4) ? UINT32_MAX - below_end : (uint32_t)rng_of_length(rng, rng_below(rng, 33));
+}
+
+/* Some plates and some of their minus, so spread. */
 static void spread_plates(struct rng *rng, struct question *question)
 {
-    for (size_t i = 0; i < question->plate_count; i++)
+    for (size_t i = 0; i < question->plate_count; i++) {
         if (rng_one_in(rng, 3))
-            question->plates[i] = (uint32_t)rng_of_length(rng, rng_below(rng, 33));
+            question->plates[i].thickness = spread_number(rng);
+        if (rng_one_in(rng, 3))
+            question->plates[i].under_tolerance = spread_number(rng);
+    }
 }
 
 void compare_drawn_question(struct compare *compare)

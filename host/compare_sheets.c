@@ -112,15 +112,38 @@ static void compare_space(struct compare *compare, const struct sheet *sheet, si
         judge_report(compare, sheet, area + GUARD);
 }
 
+/* Where there is no cause 1, a list alone has colons. */
+static void count_colons(struct compare *compare, const struct sheet *sheet)
+{
+    size_t colons = 0;
+    for (size_t i = 0; i < sheet->length; i++)
+        colons += sheet->text[i] == ':';
+    compare->some_colons += colons > 0 && colons < sheet->answer.plate_count;
+    compare->all_colons += colons > 0 && colons == sheet->answer.plate_count;
+}
+
+static void count_sheet(struct compare *compare, const struct sheet *sheet)
+{
+    const struct paper_answer *answer = &sheet->answer;
+    compare->sheets++;
+    compare->sheet_causes[answer->figures[PLACE_CAUSE]]++;
+    if (answer->figures[PLACE_CAUSE] != CAUSE_LINE) {
+        compare->stocks[answer->stock]++;
+        count_colons(compare, sheet);
+    }
+    if (answer->plate == NULL)
+        return;
+    compare->sheet_accepted[answer->part]++;
+    compare->sheet_plates.standard += answer->stock == PAPER_STANDARD;
+    count_plates(&compare->sheet_plates, answer->plates, answer->plate_count,
+                 answer->figures[paper_parts[answer->part].total_place], answer->plate);
+}
+
 void compare_sheet(struct compare *compare, const struct text *text)
 {
     struct sheet sheet;
     open_sheet(text, &sheet);
-    compare->sheets++;
-    compare->sheet_causes[sheet.answer.figures[PLACE_CAUSE]]++;
-    compare->sheet_accepted[sheet.answer.part] += sheet.answer.figures[PLACE_CAUSE] == CAUSE_NONE;
-    if (sheet.answer.figures[PLACE_CAUSE] != CAUSE_LINE)
-        compare->stocks[sheet.answer.stock]++;
+    count_sheet(compare, &sheet);
     compare_space(compare, &sheet, SCANTLING_LONGEST_REPORT);
     if (rng_one_in(&compare->rng, 4)) {
         compare->spaces++;

@@ -154,11 +154,12 @@ static void cut_short(struct rng *rng, struct text *text)
 /* 31 to 34 plates that serve, in place of the list. */
 static void many_plates(struct rng *rng, struct text *text)
 {
+    static const char *const plates[] = {"1,", "1,", "1,", "1:0,", "1:1,", "1:999999,", "999998,", "999998:30,"};
     size_t at = after_byte(text, '=', count_bytes(text, '=') - 1);
     uint32_t count = rng_between(rng, 31, 34);
     splice(text, at, value_length(text, at), "999999", 6);
     for (uint32_t i = 1; i < count; i++)
-        insert(text, at, rng_one_in(rng, 8) ? "999998," : "1,");
+        insert(text, at, plates[rng_below(rng, sizeof plates / sizeof plates[0])]);
 }
 
 static void faulty_plates(struct rng *rng, struct text *text)
@@ -170,12 +171,64 @@ static void faulty_plates(struct rng *rng, struct text *text)
     insert(text, at, faults[rng_below(rng, sizeof faults / sizeof faults[0])]);
 }
 
+/* The start of one of the list's entries, and the entry's length. */
+static size_t any_entry(struct rng *rng, const struct text *text, size_t *length)
+{
+    const size_t start = after_byte(text, '=', count_bytes(text, '=') - 1);
+    const size_t end = start + value_length(text, start);
+    uint32_t skip = 0;
+    for (size_t at = start; at < end; at++)
+        skip += text->bytes[at] == ',';
+    skip = rng_below(rng, skip + 1);
+    size_t at = start;
+    for (; skip > 0; at++)
+        skip -= text->bytes[at] == ',';
+    *length = 0;
+    while (at + *length < end && text->bytes[at + *length] != ',')
+        ++*length;
+    return at;
+}
+
+/* An entry of another form in place of one of the list or before it. Some are sound. */
+static void other_entry(struct rng *rng, struct text *text)
+{
+    static const char *const entries[] = {
+        ":30", "300:", "300:0:0", "300:30:", "300:03", "300:00", "0300:30", "300: 30", "300 :30", " 300:30", "300:30 ",
+        "300::30", ":", "::", ":300:30", "300:1000000", "1000000:30", "300:4294967326", "300:-1", "300:+1", "-300:30",
+        "300:0x1", "300:3a", "300:30\r", "300;30", "300.30", "300/30", "300-30", "300:none", "none:30", "none:", ":none",
+        "300:0", "300:300", "300:301", "0:0", "0:1", "999999:0", "999999:1", "999999:999999", "0:999999"};
+    size_t length, at = any_entry(rng, text, &length);
+    const int before = rng_one_in(rng, 2);
+    splice(text, at, before ? 0 : length, before ? "," : "", (size_t)before);
+    insert(text, at, entries[rng_below(rng, sizeof entries / sizeof entries[0])]);
+}
+
+/* Before, after or within an entry: a colon, a minus, what a colon is beside. */
+static void put_in_entry(struct rng *rng, struct text *text)
+{
+    static const char *const words[] = {":", ":0", ":30", ":,", ",:", "::", ":0:", "0:", "30:", ": ", " :", ":\n", "\n:"};
+    size_t length, at = any_entry(rng, text, &length);
+    const uint32_t place = rng_below(rng, 3);
+    at += place == 0 ? 0 : place == 1 ? length : rng_below(rng, (uint32_t)length + 1);
+    insert(text, at, words[rng_below(rng, sizeof words / sizeof words[0])]);
+}
+
+/* A comma becomes a colon, or a colon a comma. */
+static void swap_separator(struct rng *rng, struct text *text)
+{
+    const char *from = rng_one_in(rng, 2) ? ":" : ",", *to = *from == ':' ? "," : ":";
+    const uint32_t count = count_bytes(text, (uint8_t)*from);
+    if (count > 0)
+        splice(text, after_byte(text, (uint8_t)*from, rng_below(rng, count)) - 1, 1, to, 1);
+}
+
 /* What is nearly none, nearly nothing, or a list with either in it. */
 static void other_stock(struct rng *rng, struct text *text)
 {
     static const char *const words[] = {
         "", "none", "None", "nonE", "NONE", "non", "nones", "nnone", "none,", ",none", "none,300", "300,none", "none,none",
-        " none", "none ", " ", "none\r", "no\nne", "none\n", "n", "0none", "none0", "\"none\"", "nil", "300,", ","};
+        " none", "none ", " ", "none\r", "no\nne", "none\n", "n", "0none", "none0", "\"none\"", "nil", "300,", ",",
+        "none:0", ":none", ":"};
     size_t at = after_byte(text, '=', count_bytes(text, '=') - 1);
     splice(text, at, value_length(text, at), "", 0);
     insert(text, at, words[rng_below(rng, sizeof words / sizeof words[0])]);
@@ -199,9 +252,9 @@ static void put_before_value(struct rng *rng, struct text *text)
 
 static void put_after_value(struct rng *rng, struct text *text)
 {
-    static const char *const words[] = {" ", ".0", ",", ",1", "mm", "\r", "=", "\n"};
+    static const char *const words[] = {" ", ".0", ",", ",1", "mm", "\r", "=", "\n", ":", ":0"};
     size_t at = any_value(rng, text);
-    insert(text, at + value_length(text, at), words[rng_below(rng, 8)]);
+    insert(text, at + value_length(text, at), words[rng_below(rng, sizeof words / sizeof words[0])]);
 }
 
 static void empty_value(struct rng *rng, struct text *text)
@@ -230,7 +283,7 @@ static void long_value(struct rng *rng, struct text *text)
 {
     static uint8_t bytes[TEXT_ROOM];
     size_t length = 1 + rng_below(rng, TEXT_ROOM - 1);
-    memset(bytes, "0199, \nx"[rng_below(rng, 8)], length);
+    memset(bytes, "0199, \nx:"[rng_below(rng, 9)], length);
     splice(text, any_value(rng, text), 0, bytes, length);
 }
 
@@ -262,8 +315,8 @@ static void other_line(struct rng *rng, struct text *text)
 {
     static const char *const lines[] = {
         "part=end\n", "part=blind\n", "form=c\n", "shell=1\n", "dia=5000\n", "od=5000\n", "width=100\n", "rib=0\n",
-        "ribw=0\n", "sb=100\n", "temp=150\n", "plates=2500\n", "plates=\n", "plates=none\n", "refused=1\n", "\n", "=\n",
-        "temp\n"};
+        "ribw=0\n", "sb=100\n", "temp=150\n", "plates=2500\n", "plates=2500:30\n", "plates=\n", "plates=none\n",
+        "refused=1\n", "\n", "=\n", "temp\n"};
     struct line line = any_line(rng, text);
     splice(text, line.start, rng_one_in(rng, 2) ? line.length : 0, "", 0);
     insert(text, line.start, lines[rng_below(rng, sizeof lines / sizeof lines[0])]);
@@ -309,9 +362,9 @@ static void random_bytes(struct rng *rng, struct text *text)
 
 static void (*const damages[])(struct rng *, struct text *) = {
     change_byte, drop_byte, double_byte, drop_line, double_line, move_line, swap_lines, one_crlf, all_crlf,
-    drop_last_lf, cut_short, many_plates, faulty_plates, other_stock, long_number, put_before_value, put_after_value,
-    empty_value, zero_value, other_word, foreign_byte, upper_case, space_about_equals, other_line, other_key, no_rib_lines,
-    trailing_bytes, no_text, random_bytes, long_value};
+    drop_last_lf, cut_short, many_plates, faulty_plates, other_entry, put_in_entry, swap_separator, other_stock,
+    long_number, put_before_value, put_after_value, empty_value, zero_value, other_word, foreign_byte, upper_case,
+    space_about_equals, other_line, other_key, no_rib_lines, trailing_bytes, no_text, random_bytes, long_value};
 const uint32_t damage_count = sizeof damages / sizeof damages[0];
 
 void damage_text(struct rng *rng, uint32_t damage, struct text *text)

@@ -2,12 +2,15 @@
 
 #include <string.h>
 
+/* The document's plates, of which 4000 serves every case of it. */
+#define PLATES {{2500, 0}, {3200, 0}, {4000, 0}}
+
+#define END_NUMBERS_OF(form, material, shell, temperature, pressure)                           \
+    {[END_FORM] = form, [END_MATERIAL] = material, [END_SHELL] = shell,                        \
+     [END_TEMPERATURE] = temperature, [END_PRESSURE] = pressure, [END_DIAMETER] = 5000,        \
+     [END_ALLOWANCE] = 0}
 #define END(form, material, shell, temperature, pressure, place, figure)                       \
-    {PART_END,                                                                                 \
-     {[END_FORM] = form, [END_MATERIAL] = material, [END_SHELL] = shell,                       \
-      [END_TEMPERATURE] = temperature, [END_PRESSURE] = pressure, [END_DIAMETER] = 5000,       \
-      [END_ALLOWANCE] = 0},                                                                    \
-     place, figure}
+    {PART_END, END_NUMBERS_OF(form, material, shell, temperature, pressure), PLATES, place, figure}
 #define BLIND(width, rib, rib_width, bolt, place, figure)                                      \
     {PART_BLIND,                                                                               \
      {[BLIND_MATERIAL] = 1, [BLIND_TEMPERATURE] = 150, [BLIND_PRESSURE] = 1000,                \
@@ -15,7 +18,7 @@
       [BLIND_RIB_WIDTH] = rib_width, [BLIND_M] = 200, [BLIND_Y] = 110, [BLIND_CIRCLE] = 5600,  \
       [BLIND_BOLT] = bolt, [BLIND_ROOT] = 2250, [BLIND_COUNT] = 16, [BLIND_SA] = 100,          \
       [BLIND_SB] = 100},                                                                       \
-     place, figure}
+     PLATES, place, figure}
 #define PRINTED(place, figure) BLIND(100, 0, 0, 20, place, figure)
 
 /*
@@ -23,6 +26,11 @@
  * 219250.5 N of Wm1, and 5 * 490 * 11 = 26950.0 N to the 84623.0 N of Wm2.
  */
 #define RIBBED(place, figure) BLIND(100, 4900, 100, 20, place, figure)
+
+/* The document's end that needs 2500 exactly, from three plates of a thickness and a minus each. */
+#define FROM(thickness_1, minus_1, thickness_2, minus_2, thickness_3, minus_3, place, figure)  \
+    {PART_END, END_NUMBERS_OF(FORM_C, 1, 1, 150, 1080),                                        \
+     {{thickness_1, minus_1}, {thickness_2, minus_2}, {thickness_3, minus_3}}, place, figure}
 
 const struct known known_cases[] = {
     END(FORM_C, 6, 1, 50, 1000, END_DESIGN_STRESS_PLACE, 48),
@@ -60,23 +68,45 @@ const struct known known_cases[] = {
     RIBBED(BLIND_SEATING_LOAD_PLACE, 1115730),
     BLIND(100, 4900, 0, 20, PLACE_CAUSE, 17),
     BLIND(100, 0, 100, 20, PLACE_CAUSE, 17),
+    FROM(2529, 30, 2530, 30, 2531, 30, END_PLATE_PLACE, 2530),
+    FROM(3000, 0, 2529, 30, 2531, 30, END_PLATE_PLACE, 2531),
+    FROM(3000, 500, 2600, 101, 2900, 30, END_PLATE_PLACE, 2900), /* 2600 less 101 is 2499 */
+    FROM(3000, 500, 2600, 101, 3100, 0, END_PLATE_PLACE, 3000),
+    FROM(2700, 201, 2700, 200, 2700, 0, END_PLATE_PLACE, 2700),
+    FROM(2499, 0, 2500, 1, 2529, 30, PLACE_FIGURE, 2500),
+    FROM(2500, 2500, 2500, 2501, 0, 999999, PLACE_CAUSE, 14),
 };
 const size_t known_count = sizeof known_cases / sizeof known_cases[0];
 
 void known_question(const struct known *known, struct question *question)
 {
-    static const uint32_t plates[3] = {2500, 3200, 4000};
     question->part = known->part;
     memcpy(question->numbers, known->numbers, sizeof question->numbers);
-    give_plates(question, plates, 3);
+    give_plates(question, known->plates, KNOWN_PLATES);
 }
 
-const char known_sheet[] =
-    "part=blind\nmaterial=1\ntemp=150\npressure=1000\nallow=100\nod=5000\nwidth=100\nrib=0\nribw=0\nm=200\ny=110\n"
-    "circle=5600\nbolt=20\nroot=2250\ncount=16\nsa=100\nsb=100\nplates=2500,3200,4000\n";
+#define END_SHEET(pressure, plates) \
+    "part=end\nform=c\nmaterial=1\nshell=1\ntemp=150\npressure=" pressure "\ndia=5000\nallow=0\nplates=" plates "\n"
+#define END_REPORT(total, plate) "stress=108\nneed=" total "\ntotal=" total "\nplate=" plate "\n"
 
-const char known_report[] =
-    "stress=108\ncold=108\ng=4900\nb=500\nwm1=2192505\nwm2=846230\nw=2896253\nneed=3073\nedge=1913\ntotal=3173\n"
-    "plate=3200\n";
-
-const char known_empty_report[] = "refused=1\nplace=1\n";
+const struct known_sheet known_sheets[] = {
+    {"part=blind\nmaterial=1\ntemp=150\npressure=1000\nallow=100\nod=5000\nwidth=100\nrib=0\nribw=0\nm=200\ny=110\n"
+     "circle=5600\nbolt=20\nroot=2250\ncount=16\nsa=100\nsb=100\nplates=2500,3200,4000\n",
+     "stress=108\ncold=108\ng=4900\nb=500\nwm1=2192505\nwm2=846230\nw=2896253\nneed=3073\nedge=1913\ntotal=3173\n"
+     "plate=3200\n"},
+    {"", "refused=1\nplace=1\n"},
+    {END_SHEET("1080", ""), END_REPORT("2500", "3000")},
+    {END_SHEET("1054", ""), END_REPORT("2470", "2500")},
+    {END_SHEET("1055", ""), END_REPORT("2471", "3000")},
+    {END_SHEET("1080", "2530:30"), END_REPORT("2500", "2530")},
+    {END_SHEET("1080", "2530:31"), "refused=14\nplace=2500\n"},
+    {END_SHEET("1080", "2530:31,2500"), END_REPORT("2500", "2500")},
+    {END_SHEET("1080", "2500:0"), END_REPORT("2500", "2500")},
+    {END_SHEET("1080", "2500:2501"), "refused=14\nplace=2500\n"},
+    {END_SHEET("1080", "2530:"), "refused=1\nplace=9\n"},
+    {END_SHEET("1080", ":30"), "refused=1\nplace=9\n"},
+    {END_SHEET("1080", "2530:30:0"), "refused=1\nplace=9\n"},
+    {END_SHEET("1080", "2530:03"), "refused=1\nplace=9\n"},
+    {END_SHEET("1080", "2530: 30"), "refused=1\nplace=9\n"},
+};
+const size_t known_sheet_count = sizeof known_sheets / sizeof known_sheets[0];

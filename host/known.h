@@ -1,12 +1,14 @@
-/* Document 01, "Numbers to hold", and a rib worked by hand: what is asked, and the one figure of it that is known. */
+/* Document 01, "Numbers to hold", and a rib and lists worked by hand: what is asked, and the one figure that is known. */
 #ifndef KNOWN_H
 #define KNOWN_H
 
 #include "numbers.h"
 
+#define KNOWN_PLATES 3
 struct known {
     enum part part;
     uint32_t numbers[BLIND_NUMBERS];
+    struct paper_plate plates[KNOWN_PLATES];
     uint32_t place;
     uint64_t figure;
 };
@@ -14,14 +16,14 @@ struct known {
 extern const struct known known_cases[];
 extern const size_t known_count;
 
-/* The question of a case. The document's plates, of which 4000 serves every case of it. */
 void known_question(const struct known *known, struct question *question);
 
-/* The printed blind sheet and its report. */
-extern const char known_sheet[];
-extern const char known_report[];
-
-/* The refusal of the empty sheet. */
-extern const char known_empty_report[];
+/* Sheets whose whole reports are known: the printed blind sheet, the empty sheet, and ends from the usual stock and from
+   plates with a minus. */
+struct known_sheet {
+    const char *sheet, *report;
+};
+extern const struct known_sheet known_sheets[];
+extern const size_t known_sheet_count;
 
 #endif

@@ -1,5 +1,7 @@
 #include "limits.h"
 
+#include <string.h>
+
 #define END(number, value) {PART_END, END_##number, FIXED, value}
 #define BLIND(number, value) {PART_BLIND, BLIND_##number, FIXED, value}
 #define RULE(number, rule) {PART_BLIND, BLIND_##number, rule, 0}
@@ -120,4 +122,82 @@ void draw_any_limit(struct rng *rng, struct question *question)
 {
     const struct limit *limit = &limits[rng_below(rng, (uint32_t)limit_count)];
     draw_limit(rng, limit, (int)rng_below(rng, 3) - 1, question);
+}
+
+/* ---- Plates ---- */
+
+#define LARGEST ((int64_t)UINT32_MAX)
+#define GIVEN(thickness, minus) {{0, thickness}, {0, minus}}
+/* What is left, thickness less minus, is the total and step. */
+#define LEFT(step, minus) {{1, (minus) + (step)}, {0, minus}}
+#define FLAT(step) LEFT(step, 0)
+/* The largest thickness, of which that is left. */
+#define LARGEST_LEFT(step) {{0, LARGEST}, {-1, LARGEST - (step)}}
+/* Thickness is the total, minus the total and more. */
+#define ABOVE(more) {{1, 0}, {1, more}}
+/* Minus is 2^32 less the total, and more: where 32 bits wrap, the plate seems to serve. */
+#define OVER_END(thickness, more) {{0, thickness}, {-1, LARGEST + 1 + (more)}}
+
+/* First lists without minus. */
+const struct plate_limit plate_limits[] = {
+    {0, {FLAT(0)}}, {1, {FLAT(-1)}}, {1, {FLAT(0)}}, {1, {FLAT(1)}}, {1, {GIVEN(0, 0)}}, {1, {GIVEN(LARGEST, 0)}},
+    {2, {FLAT(-1), FLAT(-2)}}, {2, {FLAT(0), FLAT(0)}}, {2, {FLAT(1), FLAT(0)}}, {2, {FLAT(0), FLAT(1)}},
+    {3, {FLAT(-1), FLAT(0), FLAT(1)}}, {3, {FLAT(1), FLAT(0), FLAT(-1)}}, {3, {FLAT(2), FLAT(1), FLAT(2)}},
+    {3, {FLAT(-1), FLAT(1), FLAT(-1)}}, {4, {GIVEN(LARGEST, 0), GIVEN(0, 0), FLAT(500), FLAT(300)}},
+    {4, {GIVEN(0, 0), GIVEN(LARGEST, 0), FLAT(1), GIVEN(0, 0)}},
+    {5, {FLAT(900), FLAT(700), FLAT(100), FLAT(800), FLAT(100)}},
+    {5, {FLAT(100), FLAT(100), FLAT(100), FLAT(100), FLAT(100)}},
+    {5, {FLAT(-5), FLAT(-4), FLAT(-3), FLAT(-2), FLAT(-1)}}, {5, {FLAT(-2), FLAT(-1), FLAT(0), FLAT(1), FLAT(2)}},
+    {5, {FLAT(2), FLAT(1), FLAT(0), FLAT(-1), FLAT(-2)}},
+
+    /* Below, at and above the total, and that it is the minus that counts. */
+    {1, {LEFT(-1, 30)}}, {1, {LEFT(0, 30)}}, {1, {LEFT(1, 30)}}, {1, {LEFT(-1, 1)}}, {1, {LEFT(0, 1)}},
+    {3, {LEFT(-1, 30), LEFT(0, 30), LEFT(1, 30)}}, {3, {LEFT(1, 30), LEFT(0, 30), LEFT(-1, 30)}},
+    {3, {FLAT(-1), LEFT(0, 30), FLAT(2)}}, {2, {LEFT(-30, 30), LEFT(0, 30)}}, {2, {LEFT(0, 30), LEFT(-30, 30)}},
+
+    /* The minus is below, at and above the thickness; 2^32 is near. */
+    {1, {ABOVE(-1)}}, {1, {ABOVE(0)}}, {1, {ABOVE(1)}}, {4, {ABOVE(1), ABOVE(0), FLAT(0), ABOVE(-1)}},
+    {1, {GIVEN(0, 1)}}, {1, {GIVEN(1, 1)}}, {1, {GIVEN(1, 2)}}, {1, {GIVEN(0, LARGEST)}}, {1, {GIVEN(1, LARGEST)}},
+    {1, {GIVEN(LARGEST - 1, LARGEST)}}, {1, {GIVEN(LARGEST, LARGEST)}}, {1, {LARGEST_LEFT(0)}}, {1, {LARGEST_LEFT(-1)}},
+    {1, {OVER_END(0, 0)}}, {1, {OVER_END(10, 0)}}, {1, {OVER_END(10, 5)}}, {2, {OVER_END(10, 5), LEFT(7, 30)}},
+
+    /* Plates of one thickness, of which some serve. */
+    {2, {LEFT(0, 50), LEFT(30, 20)}}, {2, {LEFT(30, 20), LEFT(0, 50)}}, {2, {LEFT(-1, 51), LEFT(0, 50)}},
+    {2, {LEFT(0, 50), LEFT(-1, 51)}}, {2, {FLAT(50), LEFT(0, 50)}}, {2, {LEFT(0, 50), FLAT(50)}},
+    {5, {LEFT(-1, 51), LEFT(30, 20), LEFT(0, 50), LEFT(-1, 51), FLAT(50)}},
+
+    /* The smaller thickness is the one of which more is left; a minus of the total does not make a plate serve. */
+    {2, {LEFT(0, 100), LEFT(60, 30)}}, {2, {LEFT(60, 30), LEFT(0, 100)}}, {1, {{{0, 1}, {1, 0}}}},
+    {2, {FLAT(5), {{0, 1}, {1, 0}}}}, {3, {{{0, 1}, {1, 1}}, {{0, 1}, {1, 0}}, LEFT(5, 30)}},
+};
+const size_t plate_limit_count = sizeof plate_limits / sizeof plate_limits[0];
+
+static uint32_t count_from(struct from_total number, uint32_t total)
+{
+    return (uint32_t)(number.times * (int64_t)total + number.more);
+}
+
+void give_plate_limit(const struct plate_limit *limit, struct question *question)
+{
+    const uint32_t total = question_total(question);
+    give_plates(question, NULL, 0);
+    question->plate_count = limit->count;
+    for (size_t i = 0; i < limit->count; i++) {
+        question->plates[i].thickness = count_from(limit->plates[i].thickness, total);
+        question->plates[i].under_tolerance = count_from(limit->plates[i].under_tolerance, total);
+    }
+    question->colons = UINT64_C(0xAAAAAAAAAAAAAAAA);
+}
+
+/* It needs somewhat less than is left of the plate: 40 F T^2 = P d^2 has 4320 T^2 = 10^8 P. */
+void give_stock_limit(size_t plate, int step, struct question *question)
+{
+    static const uint32_t end[END_NUMBERS] = {
+        [END_FORM] = FORM_A, [END_MATERIAL] = 1, [END_SHELL] = 0, [END_TEMPERATURE] = 150, [END_DIAMETER] = 10000};
+    const uint32_t left = (uint32_t)paper_least_thickness(paper_standard_plates[plate]);
+    question->part = PART_END;
+    memcpy(question->numbers, end, sizeof end);
+    question->numbers[END_PRESSURE] = left * left / 100 * 4320 / 1000000 - 1;
+    meet_standard_plate(step, question);
+    give_standard_plates(question);
 }

@@ -1,4 +1,4 @@
-/* The limits of every cause: the value of one number at which it begins or ends. */
+/* The limits of every cause: the value of one number at which it begins or ends, and the plates at which 14 does. */
 #ifndef LIMITS_H
 #define LIMITS_H
 
@@ -33,5 +33,29 @@ extern const size_t limit_count;
 /* Numbers with the one of the limit at it or a step away, the others sound as far as that allows; no plates. */
 void draw_limit(struct rng *rng, const struct limit *limit, int step, struct question *question);
 void draw_any_limit(struct rng *rng, struct question *question);
+
+/* A number counted from the total: so many times the total, and more. */
+struct from_total {
+    int times;
+    int64_t more;
+};
+
+/* A list of plates about the total, what is left of them below, at and above it. */
+#define PLATE_LIMIT_MOST 5
+struct plate_limit {
+    size_t count;
+    struct {
+        struct from_total thickness, under_tolerance;
+    } plates[PLATE_LIMIT_MOST];
+};
+
+extern const struct plate_limit plate_limits[];
+extern const size_t plate_limit_count;
+
+/* Gives the numbers the list, as their total has it. A sheet has a colon at each second entry at least. */
+void give_plate_limit(const struct plate_limit *limit, struct question *question);
+
+/* An end from the usual stock whose total is a plate of it less its minus, and step, which is -1 to 31. */
+void give_stock_limit(size_t plate, int step, struct question *question);
 
 #endif

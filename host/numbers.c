@@ -20,12 +20,29 @@ void question_figures(const struct question *question, uint64_t figures[PAPER_PL
     paper_parts[question->part].work(question->numbers, question->plates, question->plate_count, figures);
 }
 
-void give_plates(struct question *question, const uint32_t *plates, size_t count)
+uint32_t question_total(const struct question *question)
+{
+    uint64_t figures[PAPER_PLACES];
+    paper_parts[question->part].work(question->numbers, NULL, 0, figures);
+    return figures[PLACE_CAUSE] == CAUSE_PLATE ? (uint32_t)figures[PLACE_FIGURE] : 0;
+}
+
+void give_least_end(struct question *question)
+{
+    static const uint32_t end[END_NUMBERS] = {
+        [END_FORM] = FORM_A, [END_MATERIAL] = 5, [END_SHELL] = 0, [END_TEMPERATURE] = 50, [END_PRESSURE] = 1,
+        [END_DIAMETER] = 500, [END_ALLOWANCE] = 0};
+    question->part = PART_END;
+    memcpy(question->numbers, end, sizeof end);
+}
+
+void give_plates(struct question *question, const struct paper_plate *plates, size_t count)
 {
     if (count > 0)
         memcpy(question->plates, plates, count * sizeof plates[0]);
     question->plate_count = count;
     question->standard = 0;
+    question->colons = 0;
 }
 
 void give_standard_plates(struct question *question)
@@ -179,43 +196,75 @@ void draw_thin_flange(struct rng *rng, struct question *question)
     question->numbers[BLIND_ROOT] = sufficient_root(question->numbers) + rng_between(rng, 1, 20);
 }
 
-static uint32_t draw_plate(struct rng *rng, uint32_t total, const struct question *question)
+/* Mostly none or under a mm, else up to twice the total. */
+static uint32_t draw_minus(struct rng *rng, uint32_t total)
 {
+    switch (rng_below(rng, 6)) {
+    case 0:
+        return rng_below(rng, 2 * total + 2);
+    case 1:
+        return rng_below(rng, 4);
+    case 2:
+    case 3:
+        return rng_below(rng, 100);
+    default:
+        return 0;
+    }
+}
+
+/* The minus with which this thickness is left about the total; 0 where it is too small for that. */
+static uint32_t minus_to_total(struct rng *rng, uint32_t thickness, uint32_t total)
+{
+    return thickness > total ? thickness - total + rng_below(rng, 3) - 1 : 0;
+}
+
+static struct paper_plate draw_plate(struct rng *rng, uint32_t total, int tolerant, const struct question *question)
+{
+    struct paper_plate plate = {0, tolerant ? draw_minus(rng, total) : 0};
+    const int other_minus = tolerant && rng_one_in(rng, 2);
     switch (rng_below(rng, 8)) {
     case 0:
-        return rng_below(rng, 1000000);
+        plate.thickness = rng_below(rng, 1000000);
+        break;
     case 1:
-        return rng_below(rng, 2 * total + 1);
+        plate.thickness = rng_below(rng, 2 * total + 1);
+        if (other_minus)
+            plate.under_tolerance = plate.thickness + rng_below(rng, 3);
+        break;
     case 2:
-        return question->plate_count > 0 ? question->plates[rng_below(rng, (uint32_t)question->plate_count)] : total;
+        plate.thickness = total;
+        if (question->plate_count > 0)
+            plate.thickness = question->plates[rng_below(rng, (uint32_t)question->plate_count)].thickness;
+        if (other_minus)
+            plate.under_tolerance = minus_to_total(rng, plate.thickness, total);
+        break;
     default:
-        return total + rng_below(rng, 5) - (total < 2 ? 0 : 2);
+        plate.thickness = total + plate.under_tolerance + rng_below(rng, 5) - (total < 2 ? 0 : 2);
     }
+    return plate;
 }
 
 void draw_plates(struct rng *rng, uint32_t least, uint32_t most, struct question *question)
 {
-    uint64_t figures[PAPER_PLACES];
-    const uint32_t count = rng_between(rng, least, most);
+    const uint32_t total = question_total(question), count = rng_between(rng, least, most);
+    const int tolerant = !rng_one_in(rng, 3);
     give_plates(question, NULL, 0);
-    question_figures(question, figures); /* without plates: cause 14 with the total, or an earlier cause */
     for (uint32_t i = 0; i < count; i++) {
-        question->plates[i] = draw_plate(rng, (uint32_t)figures[PLACE_FIGURE], question);
+        question->plates[i] = draw_plate(rng, total, tolerant, question);
         question->plate_count = i + 1;
     }
+    question->colons = rng_one_in(rng, 2) ? rng_bits(rng) : 0;
 }
 
 void meet_standard_plate(int step, struct question *question)
 {
-    uint64_t figures[PAPER_PLACES];
     uint32_t *allowance = &question->numbers[question->part == PART_END ? END_ALLOWANCE : BLIND_ALLOWANCE];
-    give_plates(question, NULL, 0);
-    question_figures(question, figures);
-    if (figures[PLACE_CAUSE] != CAUSE_PLATE)
+    const uint32_t total = question_total(question);
+    if (total == 0)
         return;
-    const int64_t without = (int64_t)figures[PLACE_FIGURE] - *allowance;
+    const int64_t without = (int64_t)total - *allowance;
     for (size_t i = 0; i < PAPER_STANDARD_PLATES; i++) {
-        const int64_t more = (int64_t)paper_standard_plates[i] + step - without;
+        const int64_t more = paper_least_thickness(paper_standard_plates[i]) + step - without;
         if (more >= 0 && more <= 1000) {
             *allowance = (uint32_t)more;
             return;
@@ -225,8 +274,9 @@ void meet_standard_plate(int step, struct question *question)
 
 void draw_standard_plates(struct rng *rng, struct question *question)
 {
+    const int to_thickness = rng_one_in(rng, 4) ? (int)paper_standard_plates[0].under_tolerance : 0;
     if (rng_one_in(rng, 2))
-        meet_standard_plate((int)rng_below(rng, 3) - 1, question);
+        meet_standard_plate((int)rng_below(rng, 3) - 1 + to_thickness, question);
     give_standard_plates(question);
 }
 

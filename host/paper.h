@@ -45,8 +45,13 @@ enum { PAPER_PLACES = BLIND_PLATE_PLACE + 9 }; /* of the longer report, and some
 #define PAPER_STANDARD_PLATES 13
 #define PAPER_REPORT_ROOM 512
 
+/* An entry of a list: nominal thickness and mill minus tolerance, hundredths of a mm. */
+struct paper_plate {
+    uint32_t thickness, under_tolerance;
+};
+
 /* The usual stock. */
-extern const uint32_t paper_standard_plates[PAPER_STANDARD_PLATES];
+extern const struct paper_plate paper_standard_plates[PAPER_STANDARD_PLATES];
 
 /* Table 1: N/mm2; 0 for a dash, for no such material and above 300 degrees. */
 uint32_t paper_design_stress(uint32_t material, uint32_t temperature);
@@ -70,12 +75,27 @@ struct paper_gasket {
 };
 struct paper_gasket paper_gasket(const uint32_t n[BLIND_NUMBERS]);
 
-/* All figures by place, for any numbers. plates may be null where count is 0. */
-void paper_endplate(const uint32_t n[], const uint32_t *plates, size_t count, uint64_t figures[PAPER_PLACES]);
-void paper_blind_flange(const uint32_t n[], const uint32_t *plates, size_t count, uint64_t figures[PAPER_PLACES]);
+/* Thickness less minus, below 0 where the minus exceeds the thickness; and whether that is not below the total. */
+int64_t paper_least_thickness(struct paper_plate plate);
+int paper_serves(struct paper_plate plate, uint64_t total);
+
+/* Of the plates that serve the first of the smallest nominal thickness; null if there is none. */
+const struct paper_plate *paper_smallest_serving(const struct paper_plate *plates, size_t count, uint64_t total);
+
+/*
+ * All figures by place, for any numbers; the plate's is its thickness. plates may be null where count is 0. Returns the
+ * plate chosen, which is one of the list; null where the numbers are refused.
+ */
+const struct paper_plate *paper_endplate(
+    const uint32_t n[], const struct paper_plate *plates, size_t count, uint64_t figures[PAPER_PLACES]);
+const struct paper_plate *paper_blind_flange(
+    const uint32_t n[], const struct paper_plate *plates, size_t count, uint64_t figures[PAPER_PLACES]);
+
+/* Bytes of an entry in C: two numbers of four bytes, thickness first, the lowest byte first. */
+#define PAPER_PLATE_BYTES 8
 
 /* The plates in bytes as the C interface takes them; at most room are written. Returns how many. */
-size_t paper_plates(const uint8_t *bytes, size_t length, uint32_t *plates, size_t room);
+size_t paper_plates(const uint8_t *bytes, size_t length, struct paper_plate *plates, size_t room);
 
 /* The accuracy demand on the figures printed for accepted numbers: 1 if the exact inequalities judge them right. */
 int paper_endplate_exact(const uint32_t n[], const uint64_t figures[PAPER_PLACES]);
@@ -87,9 +107,10 @@ struct paper_part {
     size_t numbers;                 /* between it and the line `plates` */
     const char *const *keys;        /* of the numbers */
     const char *const *report_keys; /* by place */
-    uint32_t last_place;            /* of the report's figures, the plate's */
+    uint32_t total_place, last_place; /* of the report's figures; the last is the plate's */
     uint32_t thickness_place, edge_thickness_place; /* of what exact judges; an endplate's edge is past its report */
-    void (*work)(const uint32_t n[], const uint32_t *plates, size_t count, uint64_t figures[PAPER_PLACES]);
+    const struct paper_plate *(*work)(
+        const uint32_t n[], const struct paper_plate *plates, size_t count, uint64_t figures[PAPER_PLACES]);
     int (*exact)(const uint32_t n[], const uint64_t figures[PAPER_PLACES]);
 };
 extern const struct paper_part paper_parts[PARTS]; /* a text of PART_NONE is refused: it has the keys for that alone */
@@ -97,17 +118,19 @@ extern const struct paper_part paper_parts[PARTS]; /* a text of PART_NONE is ref
 /* What a plates line names; PAPER_UNREAD where none was read. */
 enum paper_stock { PAPER_UNREAD, PAPER_LISTED, PAPER_STANDARD, PAPER_NONE, PAPER_STOCKS };
 
-/* What a sheet holds, and its figures by place. Under cause 1 only the figures are to be read. */
+/* What a sheet holds, its figures by place, and the plate chosen. Under cause 1 only the figures are to be read. */
 struct paper_answer {
     enum part part;
     enum paper_stock stock;
     uint32_t numbers[BLIND_NUMBERS];
-    uint32_t plates[PAPER_SHEET_PLATES];
+    struct paper_plate plates[PAPER_SHEET_PLATES];
     size_t plate_count;
     uint64_t figures[PAPER_PLACES];
+    const struct paper_plate *plate; /* one of plates; null where the sheet is refused */
 };
 
-/* The report or the refusal (causes 1 to 14 and 17) of a sheet, in PAPER_REPORT_ROOM bytes. Returns its length. */
+/* The report or the refusal (causes 1 to 14 and 17) of a sheet, in PAPER_REPORT_ROOM bytes. Returns its length. The
+   answer's plate points into the answer. */
 size_t paper_report(const uint8_t *text, size_t length, uint8_t *report, struct paper_answer *answer);
 
 /* The same in a lent space, which is written only if the report fits it. */

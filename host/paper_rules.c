@@ -167,25 +167,43 @@ static uint64_t blind_flange_edge_thickness(const uint32_t n[], const struct pap
 
 /* ---- Plates ---- */
 
-const uint32_t paper_standard_plates[PAPER_STANDARD_PLATES] = {
-    300, 400, 500, 600, 800, 1000, 1200, 1500, 2000, 2500, 3000, 4000, 5000};
+const struct paper_plate paper_standard_plates[PAPER_STANDARD_PLATES] = {
+    {300, 30}, {400, 30}, {500, 30}, {600, 30}, {800, 30}, {1000, 30}, {1200, 30}, {1500, 30}, {2000, 30}, {2500, 30},
+    {3000, 30}, {4000, 30}, {5000, 30}};
 
-/* The smallest plate not below the total; 0 if there is none. A total is never 0, so no plate of 0 serves. */
-static uint64_t serving_plate(const uint32_t *plates, size_t count, uint64_t total)
+int64_t paper_least_thickness(struct paper_plate plate)
 {
-    uint64_t chosen = 0;
+    return (int64_t)plate.thickness - (int64_t)plate.under_tolerance;
+}
+
+/* A thickness below 0 serves no total, not even 0. */
+int paper_serves(struct paper_plate plate, uint64_t total)
+{
+    const int64_t least = paper_least_thickness(plate);
+    return least >= 0 && (uint64_t)least >= total;
+}
+
+const struct paper_plate *paper_smallest_serving(const struct paper_plate *plates, size_t count, uint64_t total)
+{
+    const struct paper_plate *chosen = NULL;
     for (size_t i = 0; i < count; i++)
-        if (plates[i] >= total && (chosen == 0 || plates[i] < chosen))
-            chosen = plates[i];
+        if (paper_serves(plates[i], total) && (chosen == NULL || plates[i].thickness < chosen->thickness))
+            chosen = &plates[i];
     return chosen;
 }
 
-size_t paper_plates(const uint8_t *bytes, size_t length, uint32_t *plates, size_t room)
+static uint32_t read_four(const uint8_t bytes[4])
+{
+    return (uint32_t)bytes[0] | (uint32_t)bytes[1] << 8 | (uint32_t)bytes[2] << 16 | (uint32_t)bytes[3] << 24;
+}
+
+size_t paper_plates(const uint8_t *bytes, size_t length, struct paper_plate *plates, size_t room)
 {
     size_t count = 0;
-    for (size_t at = 0; length - at >= 4 && count < room; at += 4)
-        plates[count++] = (uint32_t)bytes[at] | (uint32_t)bytes[at + 1] << 8 | (uint32_t)bytes[at + 2] << 16 |
-                          (uint32_t)bytes[at + 3] << 24;
+    for (size_t at = 0; length - at >= PAPER_PLATE_BYTES && count < room; at += PAPER_PLATE_BYTES) {
+        plates[count].thickness = read_four(bytes + at);
+        plates[count++].under_tolerance = read_four(bytes + at + 4);
+    }
     return count;
 }
 
@@ -284,35 +302,43 @@ static void refuse(uint64_t figures[], int cause, uint64_t figure)
     figures[PLACE_FIGURE] = figure;
 }
 
-void paper_endplate(const uint32_t n[], const uint32_t *plates, size_t count, uint64_t figures[PAPER_PLACES])
+const struct paper_plate *paper_endplate(
+    const uint32_t n[], const struct paper_plate *plates, size_t count, uint64_t figures[PAPER_PLACES])
 {
     int cause = endplate_cause(n);
     refuse(figures, cause, 0);
     if (cause != CAUSE_NONE)
-        return;
+        return NULL;
+    uint64_t thickness = endplate_thickness(n);
+    uint64_t total = thickness + n[END_ALLOWANCE];
+    const struct paper_plate *plate = paper_smallest_serving(plates, count, total);
+    if (plate == NULL) {
+        refuse(figures, CAUSE_PLATE, total);
+        return NULL;
+    }
     figures[END_DESIGN_STRESS_PLACE] = paper_endplate_design_stress(n);
-    figures[END_THICKNESS_PLACE] = endplate_thickness(n);
-    figures[END_TOTAL_PLACE] = figures[END_THICKNESS_PLACE] + n[END_ALLOWANCE];
-    figures[END_PLATE_PLACE] = serving_plate(plates, count, figures[END_TOTAL_PLACE]);
-    if (figures[END_PLATE_PLACE] == 0)
-        refuse(figures, CAUSE_PLATE, figures[END_TOTAL_PLACE]);
+    figures[END_THICKNESS_PLACE] = thickness;
+    figures[END_TOTAL_PLACE] = total;
+    figures[END_PLATE_PLACE] = plate->thickness;
+    return plate;
 }
 
-void paper_blind_flange(const uint32_t n[], const uint32_t *plates, size_t count, uint64_t figures[PAPER_PLACES])
+const struct paper_plate *paper_blind_flange(
+    const uint32_t n[], const struct paper_plate *plates, size_t count, uint64_t figures[PAPER_PLACES])
 {
     struct paper_gasket gasket;
     int cause = blind_flange_cause(n, &gasket);
     refuse(figures, cause, 0);
     if (cause != CAUSE_NONE)
-        return;
+        return NULL;
     uint64_t load = flange_load(n, &gasket);
     uint64_t thickness = blind_flange_thickness(n, &gasket);
     uint64_t edge_thickness = blind_flange_edge_thickness(n, &gasket, load);
     uint64_t total = (thickness > edge_thickness ? thickness : edge_thickness) + n[BLIND_ALLOWANCE];
-    uint64_t plate = serving_plate(plates, count, total);
-    if (plate == 0) {
+    const struct paper_plate *plate = paper_smallest_serving(plates, count, total);
+    if (plate == NULL) {
         refuse(figures, CAUSE_PLATE, total);
-        return;
+        return NULL;
     }
     figures[BLIND_DESIGN_STRESS_PLACE] = paper_design_stress(n[BLIND_MATERIAL], n[BLIND_TEMPERATURE]);
     figures[BLIND_AMBIENT_STRESS_PLACE] = paper_design_stress(n[BLIND_MATERIAL], 50);
@@ -324,5 +350,6 @@ void paper_blind_flange(const uint32_t n[], const uint32_t *plates, size_t count
     figures[BLIND_THICKNESS_PLACE] = thickness;
     figures[BLIND_EDGE_THICKNESS_PLACE] = edge_thickness;
     figures[BLIND_TOTAL_PLACE] = total;
-    figures[BLIND_PLATE_PLACE] = plate;
+    figures[BLIND_PLATE_PLACE] = plate->thickness;
+    return plate;
 }

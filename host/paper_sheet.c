@@ -1,4 +1,5 @@
-/* Document 01: the sheet, cause 1, and the report; document 02: the rib's lines, the empty plate list. */
+/* Document 01: the sheet, cause 1, and the report; document 02: the rib's lines (R-4), the empty plate list (R-8), the
+   minus of a plate (R-13). */
 #include "paper.h"
 
 #include <string.h>
@@ -26,13 +27,13 @@ static const char *const blind_report_keys[] = {
 const struct paper_part paper_parts[PARTS] = {
     [PART_NONE] = {.report_keys = refusal_keys},
     [PART_END] = {.word = "end", .numbers = END_NUMBERS, .keys = end_keys, .report_keys = end_report_keys,
-                  .last_place = END_PLATE_PLACE, .thickness_place = END_THICKNESS_PLACE,
+                  .total_place = END_TOTAL_PLACE, .last_place = END_PLATE_PLACE, .thickness_place = END_THICKNESS_PLACE,
                   .edge_thickness_place = BLIND_EDGE_THICKNESS_PLACE, .work = paper_endplate,
                   .exact = paper_endplate_exact},
     [PART_BLIND] = {.word = "blind", .numbers = BLIND_NUMBERS, .keys = blind_keys, .report_keys = blind_report_keys,
-                    .last_place = BLIND_PLATE_PLACE, .thickness_place = BLIND_THICKNESS_PLACE,
-                    .edge_thickness_place = BLIND_EDGE_THICKNESS_PLACE, .work = paper_blind_flange,
-                    .exact = paper_blind_flange_exact},
+                    .total_place = BLIND_TOTAL_PLACE, .last_place = BLIND_PLATE_PLACE,
+                    .thickness_place = BLIND_THICKNESS_PLACE, .edge_thickness_place = BLIND_EDGE_THICKNESS_PLACE,
+                    .work = paper_blind_flange, .exact = paper_blind_flange_exact},
 };
 
 struct span {
@@ -90,18 +91,28 @@ static int read_number(struct span text, uint32_t *number)
     return 1;
 }
 
-/* 1 to 32 numbers with commas between. */
+/* A thickness, or a thickness, a colon and a minus; without the colon minus is 0. */
+static int read_entry(struct span entry, struct paper_plate *plate)
+{
+    int colon;
+    struct span thickness = span_before(entry, ':', &colon);
+    plate->under_tolerance = 0;
+    return read_number(thickness, &plate->thickness) &&
+           (!colon || read_number(span_from(entry, thickness.length + 1), &plate->under_tolerance));
+}
+
+/* 1 to 32 entries with commas between. */
 static int read_list(struct span list, struct paper_answer *answer)
 {
     int more = 1;
     while (more) {
-        struct span number = span_before(list, ',', &more);
+        struct span entry = span_before(list, ',', &more);
         if (answer->plate_count == PAPER_SHEET_PLATES)
             return 0;
-        if (!read_number(number, &answer->plates[answer->plate_count++]))
+        if (!read_entry(entry, &answer->plates[answer->plate_count++]))
             return 0;
         if (more)
-            list = span_from(list, number.length + 1);
+            list = span_from(list, entry.length + 1);
     }
     return 1;
 }
@@ -199,7 +210,8 @@ size_t paper_report(const uint8_t *text, size_t length, uint8_t *report, struct 
         answer->figures[PLACE_CAUSE] = CAUSE_LINE;
         answer->figures[PLACE_FIGURE] = line;
     } else {
-        paper_parts[answer->part].work(answer->numbers, answer->plates, answer->plate_count, answer->figures);
+        answer->plate =
+            paper_parts[answer->part].work(answer->numbers, answer->plates, answer->plate_count, answer->figures);
     }
     return put_report(answer, report);
 }

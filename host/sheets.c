@@ -40,7 +40,11 @@ static void append_plates(struct text *text, const struct question *question)
     append(text, question->plate_count == 0 ? "plates=none" : "plates=");
     for (size_t i = 0; i < question->plate_count && !question->standard; i++) {
         append(text, i == 0 ? "" : ",");
-        append_number(text, question->plates[i]);
+        append_number(text, question->plates[i].thickness);
+        if (question->plates[i].under_tolerance == 0 && (question->colons >> i & 1) == 0)
+            continue;
+        append(text, ":");
+        append_number(text, question->plates[i].under_tolerance);
     }
     append(text, "\n");
 }

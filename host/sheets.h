@@ -11,8 +11,8 @@ struct text {
     size_t length;
 };
 
-/* The sheet of a question with at most 64 plates: none for an empty list, nothing for the usual stock. A form other than
-   1, 2, 3 becomes the letter b. */
+/* The sheet of a question with at most 64 plates: none for an empty list, nothing for the usual stock. A minus of 0 is
+   left out with its colon, except where the question's colons have it. A form other than 1, 2, 3 becomes the letter b. */
 void write_sheet(const struct question *question, struct text *text);
 
 /* Damage number 0 to damage_count - 1 of a sheet. Some leave a sheet that is still sound. */

@@ -4,7 +4,9 @@
  *
  *     1 form material shell temperature pressure diameter allowance plates...
  *     2 material temperature pressure allowance od width rib rib_width m y circle bolt root count sa sb plates...
- *         = cause figure, the report's figures if accepted, : the figures at places 0 to 7 (1) or 0 to 14 (2)
+ *         plates: two numbers each, thickness and minus; a last number by itself is not read
+ *         = cause figure, the report's figures if accepted, the plate as thickness:minus,
+ *           : the figures at places 0 to 7 (1) or 0 to 14 (2)
  *     3 ROOM TEXT: a sheet, `/` for LF, `\` for CR, `^` for NUL, `~` for byte 255, and the length of the space lent
  *         = cause figure length : an array of 160 dots of which ROOM were lent, LF shown as `/`
  *     4 material temperature = the design stress
@@ -12,6 +14,7 @@
  *     6 n = the least r with r * r >= n
  *     7 n a = the least t with a * t * t >= n; 0 if a is 0
  *     8, 9: as 1 and 2 without the plates, for the calls that take no list
+ *     10 total plates... = the smallest plate that serves, as thickness:minus, or none
  */
 #include "vectors.h"
 
@@ -68,31 +71,81 @@ struct kind {
     uint64_t (*answer)(uint64_t, uint64_t);
 };
 
+/* Two numbers to a plate. A last one by itself is not read. */
+static size_t pair_plates(const uint32_t *values, size_t count, struct paper_plate *plates)
+{
+    for (size_t i = 0; i < count / 2; i++) {
+        plates[i].thickness = values[2 * i];
+        plates[i].under_tolerance = values[2 * i + 1];
+    }
+    return count / 2;
+}
+
+static void print_plate(const struct paper_plate *plate)
+{
+    printf(" %" PRIu32 ":%" PRIu32, plate->thickness, plate->under_tolerance);
+}
+
+/* The numbers from this one on, none of them above 32 bits. Returns how many. */
+static size_t read_words(const char *line, const struct numbers *numbers, size_t from, uint32_t words[VECTOR_NUMBERS])
+{
+    for (size_t i = from; i < numbers->count; i++)
+        words[i - from] =
+            numbers->values[i] <= UINT32_MAX ? (uint32_t)numbers->values[i] : (give_up("too large", line), 0);
+    return numbers->count - from;
+}
+
+/* The numbers of a calculation's line after its kind. */
+static size_t read_values(const char *line, const struct kind *kind, uint32_t values[VECTOR_NUMBERS])
+{
+    const struct paper_part *part = &paper_parts[kind->part];
+    static struct numbers numbers;
+    read_numbers(line, &numbers);
+    const size_t count = read_words(line, &numbers, 1, values);
+    if (count < part->numbers)
+        give_up("too few numbers", line);
+    if (kind->standard && count > part->numbers)
+        give_up("too many numbers", line);
+    return count;
+}
+
 /* A calculation's call. */
 static void work_question(const char *line, const struct kind *kind)
 {
     const struct paper_part *part = &paper_parts[kind->part];
-    static struct numbers numbers;
     static uint32_t values[VECTOR_NUMBERS];
+    static struct paper_plate list[VECTOR_NUMBERS / 2];
     uint64_t figures[PAPER_PLACES];
-    read_numbers(line, &numbers);
-    const size_t count = numbers.count - 1;
-    if (count < part->numbers)
-        give_up("too few numbers", line);
-    for (size_t i = 0; i < count; i++)
-        values[i] =
-            numbers.values[i + 1] <= UINT32_MAX ? (uint32_t)numbers.values[i + 1] : (give_up("too large", line), 0);
-    if (kind->standard && count > part->numbers)
-        give_up("too many numbers", line);
-    if (kind->standard)
-        part->work(values, paper_standard_plates, PAPER_STANDARD_PLATES, figures);
-    else
-        part->work(values, values + part->numbers, count - part->numbers, figures);
+    const size_t count = read_values(line, kind, values);
+    const size_t listed = pair_plates(values + part->numbers, count - part->numbers, list);
+    const struct paper_plate *plate =
+        kind->standard ? part->work(values, paper_standard_plates, PAPER_STANDARD_PLATES, figures)
+                       : part->work(values, list, listed, figures);
     printf("%s =", line);
-    print_figures(figures, figures[PLACE_CAUSE] == CAUSE_NONE ? part->last_place : PLACE_FIGURE);
+    print_figures(figures, plate == NULL ? PLACE_FIGURE : part->last_place - 1);
+    if (plate != NULL)
+        print_plate(plate);
     printf(" :");
     print_figures(figures, part->last_place + 2);
     printf("\n");
+}
+
+/* A total and plates. */
+static void work_choice(const char *line, const struct kind *kind)
+{
+    (void)kind;
+    static struct numbers numbers;
+    static uint32_t words[VECTOR_NUMBERS];
+    static struct paper_plate list[VECTOR_NUMBERS / 2];
+    read_numbers(line, &numbers);
+    if (numbers.count < 2)
+        give_up("no total", line);
+    const size_t listed = pair_plates(words, read_words(line, &numbers, 2, words), list);
+    const struct paper_plate *plate = paper_smallest_serving(list, listed, numbers.values[1]);
+    printf("%s =", line);
+    if (plate != NULL)
+        print_plate(plate);
+    printf(plate != NULL ? "\n" : " none\n");
 }
 
 static size_t decode(const char *signs, uint8_t text[VECTOR_LINE])
@@ -169,6 +222,7 @@ static const struct kind kinds[KINDS] = {
     [KIND_ROOT_OVER] = {.work = work_numbers, .count = 2, .answer = root_over},
     [KIND_ENDPLATE_STANDARD] = {.work = work_question, .part = PART_END, .standard = 1},
     [KIND_BLIND_FLANGE_STANDARD] = {.work = work_question, .part = PART_BLIND, .standard = 1},
+    [KIND_SMALLEST_SERVING] = {.work = work_choice},
 };
 
 static void work_line(const char *line)

@@ -1,4 +1,4 @@
-/* `vectors make`: the tables and roots, then the calculations, then sheets; last, lists longer than any other. */
+/* `vectors make`: the tables, roots and plates, then the calculations, then sheets; last, lists longer than any other. */
 #include "known.h"
 #include "limits.h"
 #include "vectors.h"
@@ -9,7 +9,7 @@
 #include <string.h>
 
 #define COUNT(array) (sizeof(array) / sizeof(array)[0])
-#define LONG_LIST 400 /* plates */
+#define LONG_LIST 200 /* plates */
 
 static void put_pair(enum vector_kind kind, uint64_t n, uint64_t by)
 {
@@ -105,9 +105,69 @@ static void put_ends(void)
     }
 }
 
+/* ---- The choice of a plate ---- */
+
+/* A total and a list in numbers. */
+static void put_choice(uint64_t total, const uint32_t *list, size_t count)
+{
+    printf("%d %" PRIu64, (int)KIND_SMALLEST_SERVING, total);
+    for (size_t i = 0; i < count; i++)
+        printf(" %" PRIu32, list[i]);
+    printf("\n");
+}
+
+/* Little or nothing is left of a plate, or less than nothing. */
+static void put_little_left(void)
+{
+    static const uint32_t plates[][2] = {
+        {0, 0}, {0, 1}, {0, UINT32_MAX}, {1, 0}, {1, 1}, {1, 2}, {300, 299}, {300, 300}, {300, 301},
+        {300, UINT32_MAX}, {UINT32_MAX, UINT32_MAX - 1}, {UINT32_MAX, UINT32_MAX}, {UINT32_MAX - 1, UINT32_MAX}};
+    for (uint64_t total = 0; total <= 1; total++)
+        for (size_t i = 0; i < COUNT(plates); i++)
+            put_choice(total, plates[i], 2);
+}
+
+/* Two of one thickness: of each is left more than the total, the total, or less; for a total of 0 less than nothing. */
+static void put_equals(uint32_t total)
+{
+    static const uint32_t minus[] = {0, 500, 501};
+    for (size_t i = 0; i < COUNT(minus); i++)
+        for (size_t j = 0; j < COUNT(minus); j++) {
+            const uint32_t list[] = {total + 500, minus[i], total + 500, minus[j]};
+            put_choice(total, list, COUNT(list));
+        }
+}
+
+/* Totals about 2^32 and the largest: cut to 32 bits, each would find a plate. */
+static void put_large_totals(void)
+{
+    static const uint32_t list[] = {UINT32_MAX, 1, UINT32_MAX, 0, 0, 1, 1, 0};
+    static const uint64_t largest[] = {INT64_MAX, UINT64_C(1) << 63, UINT64_MAX};
+    for (uint64_t total = UINT32_MAX - 2; total <= UINT32_MAX + UINT64_C(2); total++)
+        put_choice(total, list, COUNT(list));
+    for (size_t i = 0; i < COUNT(largest); i++)
+        put_choice(largest[i], list, COUNT(list));
+}
+
+/* Where the choice stands, and a number left over, which as a thickness would serve. */
+static void put_choices(void)
+{
+    static const struct {
+        uint64_t total;
+        size_t count;
+        uint32_t list[7];
+    } choices[] = {
+        {0, 0, {0}}, {0, 1, {0}}, {2500, 1, {2500}}, {0, 3, {300, 301, 0}}, {2500, 5, {4000, 0, 3000, 500, 2500}},
+        {2500, 4, {3000, 0, 2900, 400}}, {2500, 4, {3000, 0, 2900, 401}}, {2500, 4, {2900, 401, 3000, 0}},
+        {2500, 4, {2900, 400, 3000, 0}}, {2500, 6, {3000, 501, 3000, 400, 3000, 0}}, {0, 4, {300, 301, 400, 400}},
+        {0, 6, {1, 1, 0, 1, 0, 0}}};
+    for (size_t i = 0; i < COUNT(choices); i++)
+        put_choice(choices[i].total, choices[i].list, choices[i].count);
+}
+
 /* ---- Writing a question, as numbers or as a sheet ---- */
 
-static void put_question(const struct question *question)
+static void put_numbers(const struct question *question)
 {
     static const enum vector_kind kinds[PARTS] = {[PART_END] = KIND_ENDPLATE, [PART_BLIND] = KIND_BLIND_FLANGE};
     static const enum vector_kind standard_kinds[PARTS] = {
@@ -116,8 +176,20 @@ static void put_question(const struct question *question)
     for (size_t i = 0; i < paper_parts[question->part].numbers; i++)
         printf(" %" PRIu32, question->numbers[i]);
     for (size_t i = 0; i < question->plate_count && !question->standard; i++)
-        printf(" %" PRIu32, question->plates[i]);
+        printf(" %" PRIu32 " %" PRIu32, question->plates[i].thickness, question->plates[i].under_tolerance);
+}
+
+static void put_question(const struct question *question)
+{
+    put_numbers(question);
     printf("\n");
+}
+
+/* With a number left over, which as a thickness would be the total. */
+static void put_left_over(const struct question *question)
+{
+    put_numbers(question);
+    printf(" %" PRIu32 "\n", question_total(question));
 }
 
 /* A byte that no line can hold is written as another of its sort. */
@@ -145,13 +217,19 @@ static void put_sheet(const struct question *question)
 
 /* ---- What is asked ---- */
 
-/* Each case of "Numbers to hold" once; the figures of the printed sheet are cases of one question. */
+static int same_question(const struct known *one, const struct known *other)
+{
+    return memcmp(one->numbers, other->numbers, sizeof one->numbers) == 0 &&
+           memcmp(one->plates, other->plates, sizeof one->plates) == 0;
+}
+
+/* Each known question once; the figures of the printed sheet are cases of one question. */
 static void put_known(void (*put_it)(const struct question *))
 {
     static struct question question;
     for (size_t i = 0; i < known_count; i++) {
         known_question(&known_cases[i], &question);
-        if (i == 0 || memcmp(known_cases[i - 1].numbers, known_cases[i].numbers, sizeof question.numbers) != 0)
+        if (i == 0 || !same_question(&known_cases[i - 1], &known_cases[i]))
             put_it(&question);
     }
 }
@@ -178,7 +256,7 @@ static void put_mends(
     void (*put_it)(const struct question *))
 {
     static struct question question;
-    static const uint32_t plate = 4000;
+    static const struct paper_plate plate = {4000, 30};
     question.part = part;
     give_plates(&question, NULL, 0);
     memcpy(question.numbers, numbers, sizeof question.numbers);
@@ -215,50 +293,73 @@ static void put_causes(void (*put_it)(const struct question *))
     put_mends(PART_BLIND, blind, blind_mends, COUNT(blind_mends), put_it);
 }
 
-/* Plates counted from the total of the case; 0 and the largest number have signs of their own. */
-#define NOTHING (-100000)
-#define LARGEST 100000
-
-static void put_plate_lists(const struct known *known)
+/* The first accepted case of a part. */
+static void give_known(enum part part, struct question *question)
 {
-    static const struct {
-        size_t count;
-        int32_t plates[5];
-    } lists[] = {
-        {0, {0}}, {1, {-1}}, {1, {0}}, {1, {1}}, {1, {NOTHING}}, {1, {LARGEST}}, {2, {-1, -2}}, {2, {0, 0}},
-        {2, {1, 0}}, {2, {0, 1}}, {3, {-1, 0, 1}}, {3, {1, 0, -1}}, {3, {2, 1, 2}}, {3, {-1, 1, -1}},
-        {4, {LARGEST, NOTHING, 500, 300}}, {4, {NOTHING, LARGEST, 1, NOTHING}}, {5, {900, 700, 100, 800, 100}},
-        {5, {100, 100, 100, 100, 100}}, {5, {-5, -4, -3, -2, -1}}, {5, {-2, -1, 0, 1, 2}}, {5, {2, 1, 0, -1, -2}}};
-    static struct question question;
-    uint64_t figures[PAPER_PLACES];
-    known_question(known, &question);
-    give_plates(&question, NULL, 0);
-    question_figures(&question, figures); /* cause 14 and the total */
-    const uint32_t total = (uint32_t)figures[PLACE_FIGURE];
-    for (size_t i = 0; i < COUNT(lists); i++) {
-        question.plate_count = lists[i].count;
-        for (size_t j = 0; j < lists[i].count; j++) {
-            int32_t plate = lists[i].plates[j];
-            question.plates[j] = plate == NOTHING ? 0 : plate == LARGEST ? UINT32_MAX : total + (uint32_t)plate;
+    uint64_t figures[PAPER_PLACES] = {CAUSE_PLATE};
+    for (size_t i = 0; i < known_count && figures[PLACE_CAUSE] != CAUSE_NONE; i++)
+        if (known_cases[i].part == part) {
+            known_question(&known_cases[i], question);
+            question_figures(question, figures);
         }
-        put_question(&question);
+}
+
+static int has_minus(const struct question *question)
+{
+    for (size_t i = 0; i < question->plate_count; i++)
+        if (question->plates[i].under_tolerance > 0)
+            return 1;
+    return 0;
+}
+
+/* These numbers from each list at a limit, or from those alone that have a minus. */
+static void put_plate_limits(struct question *question, int with_minus)
+{
+    for (size_t i = 0; i < plate_limit_count; i++) {
+        give_plate_limit(&plate_limits[i], question);
+        if (!with_minus || has_minus(question))
+            put_question(question);
     }
 }
 
-/* Ends from the usual stock: the total is each of its plates, a hundredth less and a hundredth more. */
+static void put_plate_lists(void)
+{
+    static struct question question;
+    give_known(PART_END, &question);
+    put_plate_limits(&question, 0);
+    give_known(PART_BLIND, &question);
+    put_plate_limits(&question, 0);
+    give_least_end(&question);
+    put_plate_limits(&question, 1);
+}
+
+/* Lists with a number over: none before it, and one that does not serve, one that serves, one of each before it. */
+static void put_all_left_over(void)
+{
+    static struct question question;
+    for (enum part part = PART_NONE + 1; part < PARTS; part++) {
+        give_known(part, &question);
+        const uint32_t total = question_total(&question);
+        const struct paper_plate plates[] = {{total + 29, 30}, {total + 31, 30}};
+        give_plates(&question, NULL, 0);
+        put_left_over(&question);
+        give_plates(&question, plates, 1);
+        put_left_over(&question);
+        give_plates(&question, plates + 1, 1);
+        put_left_over(&question);
+        give_plates(&question, plates, 2);
+        put_left_over(&question);
+    }
+}
+
+/* Ends from the usual stock: the total is what is left of each plate, a hundredth less and more, and its thickness. */
 static void put_stock(void (*put_it)(const struct question *))
 {
     static struct question question;
-    static const uint32_t end[END_NUMBERS] = {
-        [END_FORM] = FORM_A, [END_MATERIAL] = 1, [END_SHELL] = 0, [END_TEMPERATURE] = 150, [END_DIAMETER] = 10000};
-    question.part = PART_END;
-    memcpy(question.numbers, end, sizeof end);
+    static const int steps[] = {-1, 0, 1, 30};
     for (size_t i = 0; i < PAPER_STANDARD_PLATES; i++)
-        for (int step = -1; step <= 1; step++) {
-            const uint32_t plate = paper_standard_plates[i];
-            question.numbers[END_PRESSURE] = plate * plate / 100 * 4320 / 1000000 - 1; /* so that it needs somewhat less */
-            meet_standard_plate(step, &question);
-            give_standard_plates(&question);
+        for (size_t j = 0; j < COUNT(steps); j++) {
+            give_stock_limit(i, steps[j], &question);
             put_it(&question);
         }
 }
@@ -360,6 +461,47 @@ static void put_rib_changes(void)
         changes, COUNT(changes));
 }
 
+/* Entries with a colon. The total is 2500. */
+static void put_minus_changes(void)
+{
+    static const struct change changes[] = {
+        {"2530:30", "2530:30"}, {"2530:30", "2530:31"}, {"2530:30", "2530:29"}, {"2530:30", "2529:30"},
+        {"2530:30", "2500:0"}, {"2530:30", "2500"}, {"2530:30", "2500:1"}, {"2530:30,4000", "2500:2500"},
+        {"2530:30,4000", "2500:2501"}, {"2530:30,4000", "0:0"}, {"2530:30,4000", "0:1"}, {"2530:30,4000", "0:999999"},
+        {"2530:30,4000", "999999:999999"}, {"2530:30,4000", "999998:999999"}, {"2530:30,4000", "999999:997499"},
+        {"2530:30,4000", "999999:997500"}, {"2530:30", "3000:0,3000:500"}, {"2530:30", "3000:501,3000:500"},
+        {"2530:30", "3000:500,2600:101"}, {"2530:30", "2600:101,3000:500"}, {"2530:30", ":30"}, {"2530:30", "2530:"},
+        {"2530:30", ":"}, {"2530:30", "::"}, {"2530:30", "2530::30"}, {"2530:30", "2530:30:0"},
+        {"2530:30", "2530:0:0"}, {"2530:30", "2530:30:"}, {"2530:30", ":2530:30"}, {"2530:30", "2530:03"},
+        {"2530:30", "2530:00"}, {"2530:30", "02530:30"}, {"2530:30", "2530: 30"}, {"2530:30", "2530 :30"},
+        {"2530:30", " 2530:30"}, {"2530:30", "2530:30 "}, {"2530:30", "2530:1000000"}, {"2530:30", "2530:0000030"},
+        {"2530:30", "1000000:30"}, {"2530:30", "2530:4294967326"}, {"2530:30", "2530:-30"}, {"2530:30", "2530:+30"},
+        {"2530:30", "2530:0x1"}, {"2530:30", "2530:3a"}, {"2530:30", "2530;30"}, {"2530:30", "2530.30"},
+        {"2530:30", "2530,:30"}, {"2530:30", "2530:,30"}, {"2530:30", "2530:30:4000"},
+        {"2530:30,4000", "2530:30,4000:"}, {"2530:30,4000", "2530:30,:4000"}, {"2530:30,4000", "2530:30,"},
+        {"2530:30,4000", "2530:30,,4000"}, {"2530:30,4000", "2530,30:4000"}, {"2530:30,4000", "2530:31,4000:1500"},
+        {"2530:30,4000", "2530:31,4000:1501"}, {"2530:30,4000", "none:30"}, {"2530:30,4000", "none:"},
+        {"2530:30,4000", ":none"}, {"2530:30,4000", "2530:none"}, {"2530:30,4000/", "2530:30"},
+        {"2530:30,4000/", "2530:/30/"}, {"2530:30,4000/", "2530:30\\/"}, {"2530:30,4000/", "2530:^30/"},
+        {"pressure=1080", "pressure=1080:0"}, {"allow=0", "allow=0:0"}, {"plates=", "plates:"}};
+    put_changes(
+        "part=end/form=c/material=1/shell=1/temp=150/pressure=1080/dia=5000/allow=0/plates=2530:30,4000/", changes,
+        COUNT(changes));
+}
+
+/* 31 to 33 entries, of which the last serves: all with a colon, or every other one. */
+static void put_full_lists(void)
+{
+    for (int count = 31; count <= 33; count++)
+        for (int every = 1; every <= 2; every++) {
+            printf("%d %d part=end/form=c/material=1/shell=1/temp=150/pressure=1080/dia=5000/allow=0/plates=",
+                   (int)KIND_SHEET, VECTOR_ROOM);
+            for (int i = 1; i < count; i++)
+                printf(i % every == 0 ? "1:999999," : "1,");
+            printf("2530:30/\n");
+        }
+}
+
 static void put_damages(struct rng *rng, int rounds)
 {
     static struct question question;
@@ -375,32 +517,50 @@ static void put_damages(struct rng *rng, int rounds)
     }
 }
 
+static void take_text(const char *sheet, struct text *text)
+{
+    text->length = strlen(sheet);
+    memcpy(text->bytes, sheet, text->length);
+}
+
 /* Spaces about the length of the report of the sheet. */
 static void put_spaces(const char *sheet)
 {
     static struct text text;
     uint8_t report[PAPER_REPORT_ROOM];
-    text.length = strlen(sheet);
-    memcpy(text.bytes, sheet, text.length);
+    take_text(sheet, &text);
     const uint32_t length = (uint32_t)paper_sheet(text.bytes, text.length, report, sizeof report);
     const uint32_t rooms[] = {0, 1, length - 1, length, length + 1};
     for (size_t i = 0; i < COUNT(rooms); i++)
         put_text(rooms[i], &text);
 }
 
+static void put_known_sheets(void)
+{
+    static struct text text;
+    for (size_t i = 0; i < known_sheet_count; i++) {
+        take_text(known_sheets[i].sheet, &text);
+        put_text(VECTOR_ROOM, &text);
+    }
+}
+
 static void put_sheets(struct rng *rng)
 {
     put_known(put_sheet);
-    put_spaces(known_sheet);
+    put_known_sheets();
+    put_spaces(known_sheets[0].sheet);
     put_spaces("");
     put_spaces("part=end\nform=c\nmaterial=1\nshell=1\ntemp=150\npressure=1080\ndia=5000\nallow=0\nplates=2500\n");
-    put_spaces("part=end\nform=c\nmaterial=1\nshell=1\ntemp=150\npressure=1080\ndia=5000\nallow=0\nplates=2499\n");
+    put_spaces("part=end\nform=c\nmaterial=1\nshell=1\ntemp=150\npressure=1080\ndia=5000\nallow=0\nplates=2530:30\n");
+    put_spaces("part=end\nform=c\nmaterial=1\nshell=1\ntemp=150\npressure=1080\ndia=5000\nallow=0\nplates=2529:30\n");
     put_spaces("part=end\nform=c\nmaterial=1\nshell=1\ntemp=150\npressure=1080\ndia=5000\nallow=0\nplates=\n");
     put_spaces("part=end\nform=c\nmaterial=1\nshell=1\ntemp=150\npressure=1080\ndia=5000\nallow=0\nplates=none\n");
     put_causes(put_sheet);
     put_limits(rng, -1, 1, 2, put_sheet);
     put_end_changes();
     put_rib_changes();
+    put_minus_changes();
+    put_full_lists();
     put_stock(put_sheet);
     put_drawn_stock(rng, 10, put_sheet);
     put_damages(rng, 2);
@@ -417,16 +577,22 @@ void make_vectors(void)
     put_small();
     put_ends();
     put_printed();
+    put_little_left();
+    put_equals(0);
+    put_equals(2500);
+    put_large_totals();
+    put_choices();
     put_known(put_question);
     put_limits(&rng, -1, 1, 1, put_question);
     put_causes(put_question);
-    put_plate_lists(&known_cases[0]);
-    put_plate_lists(&known_cases[known_count - 1]);
+    put_plate_lists();
+    put_all_left_over();
     put_stock(put_question);
     put_drawn_stock(&rng, 30, put_question);
     put_drawn(&rng, 60, 0, 4, put_question);
     put_drawn(&rng, 6, 0, 49, put_question);
     put_drawn(&rng, 44, 1, 3, put_question);
+    put_drawn(&rng, 6, 0, 3, put_left_over);
     put_thin(&rng, 30, put_question);
     put_sheets(&rng);
     put_drawn(&rng, 6, 0, LONG_LIST, put_question);

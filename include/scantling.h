@@ -38,7 +38,7 @@ enum scantling_endplate_place {
     SCANTLING_ENDPLATE_DESIGN_STRESS = 2, /* stress: N/mm2; the lower of plate and shell for forms c and d */
     SCANTLING_ENDPLATE_THICKNESS = 3,     /* need: hundredths of a mm */
     SCANTLING_ENDPLATE_TOTAL = 4,         /* need and allowance: hundredths of a mm */
-    SCANTLING_ENDPLATE_PLATE = 5          /* the plate chosen: hundredths of a mm */
+    SCANTLING_ENDPLATE_PLATE = 5          /* the plate chosen, its thickness alone: hundredths of a mm */
 };
 
 /* Places 2 to 12 of a blind flange, in the order of its report. */
@@ -53,7 +53,7 @@ enum scantling_blind_flange_place {
     SCANTLING_BLIND_FLANGE_THICKNESS = 9,         /* need: hundredths of a mm */
     SCANTLING_BLIND_FLANGE_EDGE_THICKNESS = 10,   /* edge: hundredths of a mm */
     SCANTLING_BLIND_FLANGE_TOTAL = 11,            /* greater of both, and allowance: hundredths of a mm */
-    SCANTLING_BLIND_FLANGE_PLATE = 12             /* the plate chosen: hundredths of a mm */
+    SCANTLING_BLIND_FLANGE_PLATE = 12             /* the plate chosen, its thickness alone: hundredths of a mm */
 };
 
 /* Causes of refusal, in checking order: 17 comes right after 8. The figure is 0 where none is named. */
@@ -81,6 +81,14 @@ enum scantling_cause {
 #define SCANTLING_LONGEST_REPORT 319
 
 /*
+ * A plate in the bytes of a list: two uint32_t of four bytes each, lowest byte first, its thickness and then its mill minus
+ * tolerance, in hundredths of a mm, each of any value. A plate serves if its thickness less its minus is not below the
+ * total; one whose minus exceeds its thickness never does. Chosen is the smallest thickness that serves, the first of
+ * equals.
+ */
+#define SCANTLING_PLATE_BYTES 8
+
+/*
  * One figure of an endplate without openings (8.3.4). The numbers stand in the order of a sheet's lines. Each may be
  * any uint32_t; outside its range the call is refused by its cause.
  */
@@ -92,8 +100,8 @@ uint64_t scantling_endplate(
     uint32_t pressure,    /* thousandths of N/mm2: 1 to 2000 */
     uint32_t diameter,    /* bolt circle (a) or inside of the shell (c, d), tenths of a mm: 500 to 30000 */
     uint32_t allowance,   /* for corrosion, hundredths of a mm: 0 to 1000 */
-    const uint8_t *plates, /* thicknesses in hundredths of a mm, four bytes each, lowest first */
-    size_t plates_length, /* in bytes, any; a last 1 to 3 bytes over are not read. plates may be null if it is 0 */
+    const uint8_t *plates, /* eight bytes each: thickness, then minus; see SCANTLING_PLATE_BYTES */
+    size_t plates_length, /* in bytes, any; a last 1 to 7 bytes over are not read. plates may be null if it is 0 */
     uint32_t place);      /* the figure wanted, any; see enum scantling_place */
 
 /* One figure of a blind flange with the gasket inside the bolt circle (Figure 4), in the same way. */
@@ -120,8 +128,9 @@ uint64_t scantling_blind_flange(
 
 /*
  * The same figures without a list: the plate is chosen from the usual stock, of 3, 4, 5, 6, 8, 10, 12, 15, 20, 25, 30, 40
- * and 50 mm. Each answers what the call above answers with a list of these. An empty list is not the usual stock: with it
- * the calls above are refused by SCANTLING_NO_PLATE, and its figure is the total, wherever no other cause applies.
+ * and 50 mm, each with a minus of 0.30 mm. Each answers what the call above answers with a list of these. An empty list is
+ * not the usual stock: with it the calls above are refused by SCANTLING_NO_PLATE, and its figure is the total, wherever no
+ * other cause applies.
  */
 uint64_t scantling_endplate_standard(
     uint32_t form, uint32_t material, uint32_t shell, uint32_t temperature, uint32_t pressure, uint32_t diameter,
@@ -135,8 +144,9 @@ uint64_t scantling_blind_flange_standard(
  * Answers the sheet in text: the length in bytes of its report or refusal. If that is not above out_length the report
  * stands in the first bytes of out, and the bytes past it are as they were. Otherwise the space is short (cause 15) and
  * all of out is as it was. A text of any bytes is answered. text and out must not overlap; either may be null if its
- * length is 0. A sheet that ends in "plates=\n" has the usual stock; one that ends in "plates=none\n" has no plate, and
- * its refusal by cause 14 says the total.
+ * length is 0. An entry after plates= is thickness or thickness:minus,
+ * in hundredths of a mm. A sheet that ends in "plates=\n" has the usual
+ * stock; one that ends in "plates=none\n" has no plate, and its refusal by cause 14 says the total.
  */
 size_t scantling_sheet(const uint8_t *text, size_t text_length, uint8_t *out, size_t out_length);
 

@@ -2,6 +2,7 @@
 use Prim.Native.Nat.{ℕ}
 use mathlib.Core.Path.{◌≡◌}
 use mathlib.Core.List.{List}
+use Rattle.plates.specs.declared.Plate.{Plate}
 use Rattle.rules.specs.Answer.{endplate_answer, blind_flange_answer, Accepted}
 use Rattle.rules.specs.Exact.{EndplateThicknessExact, ThicknessExact, EdgeExact, EndplateExact, BlindFlangeExact}
 use Rattle.limits.specs.declared.EndplateSheet.{EndplateSheet}
@@ -23,7 +24,7 @@ at_its_place s (Refused cause figure) h z = absurd (h z)
 
 -- of the sheet s that was made of C's numbers, and the plates that were listed
 pub endplate_placed :
-    (plates : List ℕ) {listed : List ℕ} {made s : EndplateSheet} {answer : Answer} {r place : ℕ} →
+    (plates : List Plate) {listed : List Plate} {made s : EndplateSheet} {answer : Answer} {r place : ℕ} →
     listed ≡ plates →
     made ≡ s →
     answer ≡ endplate_answer made listed →
@@ -46,7 +47,7 @@ at_their_places s (BlindFlange f plate) h z = h z
 at_their_places s (Refused cause figure) h z = absurd (h z)
 
 pub flange_placed :
-    (plates : List ℕ) {listed : List ℕ} {made s : BlindFlangeSheet} {answer : Answer} {r place : ℕ} →
+    (plates : List Plate) {listed : List Plate} {made s : BlindFlangeSheet} {answer : Answer} {r place : ℕ} →
     listed ≡ plates →
     made ≡ s →
     answer ≡ blind_flange_answer made listed →

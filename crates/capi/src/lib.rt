@@ -4,7 +4,8 @@
 
 ghost use Rattle.std.specs.Prelude.{◌≤◌, ◌≡◌};
 ghost use Rattle.root.specs.Root.{least_root};
-ghost use Rattle.plates.specs.Plates.{plates_in, standard_plates};
+ghost use Rattle.plates.specs.Entries.{numbers_in, plates_in};
+ghost use Rattle.plates.specs.Plates.{standard_plates};
 ghost use Rattle.rules.specs.Answer.{endplate_answer, blind_flange_answer};
 ghost use Rattle.report.specs.Report.{longest};
 ghost use Rattle.sheet.specs.Outcome.{length_for, space_of};
@@ -19,7 +20,8 @@ use call::{blind_flange_call, endplate_call};
 use places::figure_at;
 use plates::{in_bytes, standard_plates};
 
-// One figure of an endplate, by its place. The plates are bytes, four to a plate, lowest first.
+// One figure of an endplate, by its place. The plates are bytes, eight to a plate: thickness, then minus, each lowest
+// byte first.
 pub fn scantling_endplate(
     form: u32,
     material: u32,
@@ -32,9 +34,9 @@ pub fn scantling_endplate(
     place: u32,
 ) -> u64
     ensures figure { let s = endplate_call form material shell temperature pressure diameter allowance in
-        result ≡ figure_at (endplate_answer s (plates_in plates.now)) place }
+        result ≡ figure_at (endplate_answer s (plates_in (numbers_in plates.now))) place }
     ensures exact { let s = endplate_call form material shell temperature pressure diameter allowance in
-        EndplateFigureExact s (endplate_answer s (plates_in plates.now)) place result }
+        EndplateFigureExact s (endplate_answer s (plates_in (numbers_in plates.now))) place result }
 {
     let sheet = endplate_call(
         form,
@@ -71,10 +73,10 @@ pub fn scantling_blind_flange(
 ) -> u64
     ensures figure { let s =
         blind_flange_call material temperature pressure allowance od width rib rib_width m y circle bolt root count sa sb in
-        result ≡ figure_at (blind_flange_answer s (plates_in plates.now)) place }
+        result ≡ figure_at (blind_flange_answer s (plates_in (numbers_in plates.now))) place }
     ensures exact { let s =
         blind_flange_call material temperature pressure allowance od width rib rib_width m y circle bolt root count sa sb in
-        BlindFlangeFigureExact s (blind_flange_answer s (plates_in plates.now)) place result }
+        BlindFlangeFigureExact s (blind_flange_answer s (plates_in (numbers_in plates.now))) place result }
 {
     let sheet = blind_flange_call(
         material,

@@ -1,11 +1,14 @@
-// An answer's figures by place, for C. Places 0 and 1 of an accepted sheet, its cause and figure, are 0.
+// An answer's figures by place, for C, the plate's thickness alone. Places 0 and 1 of an accepted sheet, its cause and
+// figure, are 0.
 ghost use Rattle.std.specs.Prelude.{◌≡◌, get_or};
 ghost use Rattle.rules.specs.Answer.{in_numbers, Endplate, BlindFlange};
 ghost use Rattle.capi.specs.Places.{figure_at};
 
+use plates::Plate;
 use rules::{Answer, BlindFlangeFigures, EndplateFigures, Refusal, Size};
 
-// The figure at a place of a list; 0 past its end. In both lists the plate is made a u64 by `as`: with `u64::from` no proof closes.
+// The figure at a place of a list; 0 past its end. In both lists a plate's thickness is made a u64 by `as`: with `u64::from` no
+// proof closes.
 fn at(figures: &[u64], place: u32) -> u64
     ensures { result ≡ get_or figures.now place 0 }
 {
@@ -13,17 +16,19 @@ fn at(figures: &[u64], place: u32) -> u64
 }
 
 #[tactic(auto, unfolding(crate::specs::Places::figure_at))]
-fn endplate_at(f: EndplateFigures, plate: u32, place: u32) -> u64
+fn endplate_at(f: EndplateFigures, plate: Plate, place: u32) -> u64
     ensures { result ≡ figure_at (Endplate f plate) place }
 {
-    let figures = [0, 0, f.design_stress, f.thickness, f.total, plate as u64];
+    let nominal = plate.thickness as u64;
+    let figures = [0, 0, f.design_stress, f.thickness, f.total, nominal];
     at(&figures, place)
 }
 
 #[tactic(auto, unfolding(crate::specs::Places::figure_at))]
-fn blind_flange_at(f: BlindFlangeFigures, plate: u32, place: u32) -> u64
+fn blind_flange_at(f: BlindFlangeFigures, plate: Plate, place: u32) -> u64
     ensures { result ≡ figure_at (BlindFlange f plate) place }
 {
+    let nominal = plate.thickness as u64;
     let figures = [
         0,
         0,
@@ -37,7 +42,7 @@ fn blind_flange_at(f: BlindFlangeFigures, plate: u32, place: u32) -> u64
         f.thickness,
         f.edge_thickness,
         f.total,
-        plate as u64,
+        nominal,
     ];
     at(&figures, place)
 }

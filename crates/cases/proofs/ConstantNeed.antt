@@ -2,6 +2,7 @@
 use Rattle.std.proofs.Common.{◌≡◌, ℕ, ◌*◌, ◌≤◌, List, [], ◌∷◌, length, sym, refl, ◌∙◌, arith}
 use Rattle.text.specs.Index.{index_of, index_after}
 use Rattle.tables.specs.DesignStress.{column, design_stress_of}
+use Rattle.plates.specs.Plates.{thinner_by}
 use Rattle.root.specs.Least.{◌≥◌, Least, least_most}
 use Rattle.root.proofs.Laws.{square_le}
 use Rattle.limits.specs.Stress.{endplate_stress}
@@ -9,7 +10,7 @@ use Rattle.rules.specs.Answer.{Accepted}
 use Rattle.limits.specs.declared.EndplateSheet.{EndplateSheet}
 use Rattle.text.specs.Line.{before, after, value_of}
 use Rattle.text.specs.Number.{number_of}
-use Rattle.text.specs.Plates.{numbers_listed, plates_of}
+use Rattle.text.specs.Plates.{entry_of, plates_listed, plates_of}
 use Rattle.report.specs.Printed.{printed}
 use Rattle.std.specs.Prelude.{Option, Some}
 use Rattle.lines.specs.Fields.{line_of}
@@ -34,10 +35,10 @@ end_sheet pressure = record {
 }
 
 abbrev Says : List ℕ → ℕ → Type 0
-Says text P = sheet_of text ≡ endplate (end_sheet P) (3000 ∷ [])
+Says text P = sheet_of text ≡ endplate (end_sheet P) (thinner_by 0 3000 ∷ [])
 
 says : Says (end_at "pressure=1080") 1080 × Says (end_at "pressure=1081") 1081
-unfolding end_sheet index_of index_after before after value_of number_of numbers_listed plates_of line_of plates_line lines_of part_of sheet_of
+unfolding end_sheet index_of index_after before after value_of number_of entry_of plates_listed plates_of line_of plates_line lines_of part_of sheet_of
 says = (refl, refl)
 
 module _ (f : Program) (exact : DemandThree f) (space : List ℕ) (room : 43 ≤ length space) where

@@ -1,32 +1,29 @@
 -- The plates line as it was read before R-8, and the sheets that are read the same: every one whose plates line says neither
 -- nothing nor none. Assumes nothing.
-use Rattle.std.proofs.Common.{◌≡◌, ℕ, ◌+◌, Bool, true, false, cond, not, eqb, List, [], ◌∷◌, length, sym, refl, ap, ◌∙◌}
+use Rattle.std.proofs.Common.{◌≡◌, ℕ, ◌+◌, Bool, true, false, cond, not, eqb, List, [], ◌∷◌, length, refl, ap}
 use Rattle.text.specs.Index.{index_of, index_after}
+use Rattle.plates.specs.declared.Plate.{Plate}
 use Rattle.text.specs.Ascii.{ascii, line_feed}
 use Rattle.text.specs.Line.{same, is_line, value_of, before, after}
 use Rattle.text.specs.Number.{number_of}
-use Rattle.text.specs.Plates.{most_plates, numbers_listed, plates_of}
+use Rattle.text.specs.Plates.{most_plates, entry_of, plates_listed, plates_of}
 use Rattle.text.specs.Laws.Begins.{same_equal}
 use Rattle.std.specs.Prelude.{Option, Some, None}
 use Rattle.report.specs.Report.{report_text}
 use Rattle.lines.specs.Fields.{Field, field_of, fields_of}
 use Rattle.lines.specs.Lines.{Lines, fault, given, ahead, last_line}
-use Rattle.sheet.specs.Sheet.{Sheet, malformed, endplate, blind_flange, read, is_part, part_of, sheet_of, answered, answer_of}
+use Rattle.sheet.specs.Sheet.{Sheet, malformed, endplate, blind_flange, read, is_part, sheet_of, answered, answer_of}
 use Rattle.sheet.specs.Outcome.{report_for}
-use Rattle.cases.proofs.OtherPlates.{Reading, sheet_by_part, plates_by, lines_by, part_by, sheet_by, present_part, past, agree}
+use Rattle.cases.proofs.OtherPlates.{Reading, sheet_by_part, plates_by, lines_by, part_by, sheet_by, past, after_fields, read_alike}
 
 -- nothing was an empty list, and none was no list
 abbrev pub former_plates : Reading
-former_plates v = cond (eqb (length v) 0) (Some []) (numbers_listed most_plates v)
+former_plates v = cond (eqb (length v) 0) (Some []) (plates_listed most_plates v)
 
 abbrev pub former_sheet_of : List ℕ → Sheet
 former_sheet_of text = sheet_by former_plates text
 
 -- ---- every other plates line is read as it was
-
--- what stands after the lines of the fields, where the plates line must be
-abbrev pub after_fields : List ℕ → List ℕ
-after_fields text = past (fields_of (not (is_part (ascii "end") text))) (after line_feed text)
 
 -- a plates line there says neither nothing nor none
 abbrev pub Neither : List ℕ → Type 0
@@ -35,15 +32,12 @@ Neither t =
     is_line (ascii "plates") t ≡ true →
     (eqb (length v) 0 ≡ false) × (same (ascii "none") v ≡ false)
 
-part_as_before :
-    (blind : Bool) (text : List ℕ) →
-    Neither (past (fields_of blind) (after line_feed text)) →
-    part_of blind text ≡ part_by former_plates blind text
+pub read_as_before : (text : List ℕ) → Neither (after_fields text) → sheet_of text ≡ former_sheet_of text
 unfolding plates_of
-part_as_before blind text n = sym (present_part blind text) ∙ agree plates_of former_plates blind text (by_line _ refl)
+read_as_before text n = read_alike former_plates text (by_line (is_line (ascii "plates") t) refl)
   where
     t : List ℕ
-    t = past (fields_of blind) (after line_feed text)
+    t = after_fields text
 
     by_line :
         (b : Bool) →
@@ -53,22 +47,9 @@ part_as_before blind text n = sym (present_part blind text) ∙ agree plates_of 
     by_line true e = rw ((n e).0, (n e).1)
     by_line false e = refl
 
-pub read_as_before : (text : List ℕ) → Neither (after_fields text) → sheet_of text ≡ former_sheet_of text
-unfolding sheet_of
-read_as_before text n = by_part (is_part (ascii "end") text) (is_part (ascii "blind") text) n
-  where
-    by_part :
-        (end blind : Bool) →
-        Neither (past (fields_of (not end)) (after line_feed text)) →
-        sheet_by_part end blind (part_of false text) (part_of true text)
-        ≡ sheet_by_part end blind (part_by former_plates false text) (part_by former_plates true text)
-    by_part true blind n = part_as_before false text n
-    by_part false true n = part_as_before true text n
-    by_part false false n = refl
-
 -- ---- a sheet with a list of one plate or more keeps its report
 
-abbrev OneOrMore : Option (List ℕ) → Type 0
+abbrev OneOrMore : Option (List Plate) → Type 0
 OneOrMore None = ⊥
 OneOrMore (Some []) = ⊥
 OneOrMore (Some (plate ∷ plates)) = Unit
@@ -90,7 +71,7 @@ line_lists :
 line_lists line [] t g = by_plates (plates_by former_plates t) (eqb (length (after line_feed t)) 0) refl g
   where
     by_plates :
-        (o : Option (List ℕ)) (last : Bool) →
+        (o : Option (List Plate)) (last : Bool) →
         eqb (length (after line_feed t)) 0 ≡ last →
         LinesList (last_line line o (after line_feed t)) →
         OneOrMore o
@@ -105,9 +86,9 @@ line_lists line (f ∷ fs) t g =
     later (Some x) (fault k) g = absurd g
     later None rest g = absurd g
 
--- none lists no numbers
-none_unlisted : (v : List ℕ) → same (ascii "none") v ≡ true → numbers_listed most_plates v ≡ None
-unfolding numbers_listed number_of before index_of index_after
+-- none lists no plates
+none_unlisted : (v : List ℕ) → same (ascii "none") v ≡ true → plates_listed most_plates v ≡ None
+unfolding plates_listed entry_of number_of before index_of index_after
 none_unlisted v e = rw (same_equal (ascii "none") v e)
 
 value_neither :
@@ -119,7 +100,7 @@ value_neither v g = by_value (eqb (length v) 0) refl (same (ascii "none") v) ref
         eqb (length v) 0 ≡ empty →
         (is_none : Bool) →
         same (ascii "none") v ≡ is_none →
-        OneOrMore (cond empty (Some []) (numbers_listed most_plates v)) →
+        OneOrMore (cond empty (Some []) (plates_listed most_plates v)) →
         (eqb (length v) 0 ≡ false) × (same (ascii "none") v ≡ false)
     by_value true e is_none n g = absurd g
     by_value false e true n g = absurd (rw (none_unlisted v n) at g)

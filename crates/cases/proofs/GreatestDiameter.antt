@@ -4,7 +4,8 @@ use Rattle.std.proofs.Common.{◌≡◌, ℕ, Bool, true, false, ◌||◌, ltb, 
 use mathlib.Core.Bool.{or-true}
 use Rattle.tables.specs.DesignStress.{column, design_stress_of}
 use Rattle.root.specs.Root.{ceil_div, whole_root_by, least_root, least_root_over}
-use Rattle.plates.specs.Plates.{smallest_serving}
+use Rattle.plates.specs.declared.Plate.{Plate}
+use Rattle.plates.specs.Plates.{smallest_serving, thinner_by}
 use Rattle.limits.specs.Causes.{any, Causes, tests_of, first_of, first_cause}
 use Rattle.limits.specs.Stress.{endplate_stress}
 use Rattle.limits.specs.Limits.{endplate_causes, flange_limits}
@@ -74,11 +75,11 @@ former_six s now =
     by_test false false true h = sym (h refl)
     by_test false false false h = refl
 
-endplate_six : (s : EndplateSheet) (plates : List ℕ) → Six (causes_of (endplate s plates)) 30000 (endplate s plates)
+endplate_six : (s : EndplateSheet) (plates : List Plate) → Six (causes_of (endplate s plates)) 30000 (endplate s plates)
 unfolding endplate_causes
 endplate_six s plates = refl
 
-flange_six : (s : BlindFlangeSheet) (plates : List ℕ) → Six (causes_of (blind_flange s plates)) 30000 (blind_flange s plates)
+flange_six : (s : BlindFlangeSheet) (plates : List Plate) → Six (causes_of (blind_flange s plates)) 30000 (blind_flange s plates)
 unfolding blind_flange_causes flange_limits bolts_causes
 flange_six s plates = refl
 
@@ -97,13 +98,13 @@ kept (blind_flange s plates) n = kept_if (blind_flange s plates) refl n
 
 -- of the numeric calls
 endplate_kept :
-    (s : EndplateSheet) (plates : List ℕ) →
+    (s : EndplateSheet) (plates : List Plate) →
     let former = former_answer (endplate s plates) in
     cause_of former ≢ 6 → former ≡ endplate_answer s plates
 endplate_kept s plates = kept (endplate s plates)
 
 flange_kept :
-    (s : BlindFlangeSheet) (plates : List ℕ) →
+    (s : BlindFlangeSheet) (plates : List Plate) →
     let former = former_answer (blind_flange s plates) in
     cause_of former ≢ 6 → former ≡ blind_flange_answer s plates
 flange_kept s plates = kept (blind_flange s plates)
@@ -150,8 +151,8 @@ storage_end = record {
 }
 
 newly_answered :
-    (former_answer (endplate storage_end (5000 ∷ [])) ≡ Refused 6 0)
-    × (report_of (endplate_answer storage_end (5000 ∷ [])) ≡ 108 ∷ 4565 ∷ 4665 ∷ 5000 ∷ [])
+    (former_answer (endplate storage_end (thinner_by 0 5000 ∷ [])) ≡ Refused 6 0)
+    × (report_of (endplate_answer storage_end (thinner_by 0 5000 ∷ [])) ≡ 108 ∷ 4565 ∷ 4665 ∷ 5000 ∷ [])
 unfolding storage_end column design_stress_of ceil_div whole_root_by least_root least_root_over endplate_stress endplate_thickness
     endplate_figures endplate_causes first_of endplate_sizing smallest_serving endplate_answer
 newly_answered = (refl, refl)

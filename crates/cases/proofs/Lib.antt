@@ -13,3 +13,6 @@ mod LoadsInTenths
 mod OtherPlates
 mod FormerPlates
 mod UsualStock
+mod WithoutMinus
+mod WithoutColon
+mod MinusTolerance

@@ -4,8 +4,9 @@ use Rattle.std.proofs.Common.{◌≡◌, ℕ, ◌≤◌, Bool, true, false, cond
 use borrow.Author.Tests.{eqb-false}
 use Rattle.tables.specs.DesignStress.{column, design_stress_of}
 use Rattle.root.specs.Root.{ceil_div, whole_root_by, least_root, least_root_over}
-use Rattle.plates.specs.Plates.{smallest_serving, NotAbove, Offered}
-use Rattle.plates.proofs.Laws.{smallest}
+use Rattle.plates.specs.declared.Plate.{Plate}
+use Rattle.plates.specs.Plates.{smallest_serving, thinner_by, Serves, Smallest, Chosen}
+use Rattle.plates.proofs.Laws.{smallest, listed}
 use Rattle.std.specs.Prelude.{Option, Some, None}
 use Rattle.limits.specs.Causes.{of_numbers, of_bolting, of_loads, of_plates, first_of, first_cause}
 use Rattle.limits.specs.Limits.{flange_limits}
@@ -32,13 +33,18 @@ use Rattle.cases.proofs.WholeNewtons.{sufficient, still_sufficient, under_a_newt
 
 -- ---- answer by answer
 
--- accepted both, the figures as above and the plate not above the former
+-- accepted both, the figures as above and the plate's thickness not above the former
 abbrev pub Lower : Answer → Answer → Type 0
-Lower (BlindFlange f plate) (BlindFlange f' plate') = Falls f f' × (plate ≤ plate')
+Lower (BlindFlange f plate) (BlindFlange f' plate') = Falls f f' × (plate.thickness ≤ plate'.thickness)
 Lower (BlindFlange f plate) (Endplate f' plate') = ⊥
 Lower (BlindFlange f plate) (Refused cause' figure') = ⊥
 Lower (Endplate f plate) former = ⊥
 Lower (Refused cause figure) former = ⊥
+
+-- a choice not above a plate, by thickness; where none is chosen this holds of no plate
+abbrev NotAbove : Option Plate → Plate → Type 0
+NotAbove (Some chosen) plate = chosen.thickness ≤ plate.thickness
+NotAbove None plate = ⊥
 
 -- what becomes of a former answer
 pub record NeverRises (s : BlindFlangeSheet) (former now : Answer) : Type 0 where
@@ -62,17 +68,17 @@ unchanged s cause some none = record {
   refused = λ n n' n''. refl;
 }
 
-module _ (s : BlindFlangeSheet) (plates : List ℕ) where
+module _ (s : BlindFlangeSheet) (plates : List Plate) where
   -- these figures, no cause before 14 applying
-  abbrev chosen : BlindFlangeFigures → Option ℕ → Answer
+  abbrev chosen : BlindFlangeFigures → Option Plate → Answer
   chosen f choice = with_plate (blind_flange_unless 0 f) choice
 
   -- both with the plate still to choose
   both :
       (f f' : BlindFlangeFigures) →
       Falls f f' →
-      (choice choice' : Option ℕ) →
-      ((plate : ℕ) → choice' ≡ Some plate → NotAbove choice plate) →
+      (choice choice' : Option Plate) →
+      ((plate : Plate) → choice' ≡ Some plate → NotAbove choice plate) →
       NeverRises s (chosen f' choice') (chosen f choice)
   both f f' falls (Some plate) (Some plate') below = record {
     accepted = λ e. (falls, below plate' refl);
@@ -101,15 +107,23 @@ module _ (s : BlindFlangeSheet) (plates : List ℕ) where
   not_above :
       (total total' : ℕ) →
       total ≤ total' →
-      (plate : ℕ) →
+      (plate : Plate) →
       smallest_serving total' plates ≡ Some plate →
       NotAbove (smallest_serving total plates) plate
-  not_above total total' h plate e =
-      let o : Offered total' plates (Some plate) = rw e at (smallest total' plates).offered in
-      (smallest total plates).least plate o.0 (omega (arith, o.1))
+  not_above total total' h plate e = by_choice (smallest_serving total plates) (smallest total plates)
+    where
+      chosen_then : Smallest total' plates plate
+      chosen_then = rw e at (smallest total' plates)
+
+      serves_now : Serves total plate
+      serves_now = let serving = chosen_then.serving in (serving.0, omega (arith, h, serving.1))
+
+      by_choice : (choice : Option Plate) → Chosen total plates choice → NotAbove choice plate
+      by_choice (Some chosen) c = c.least plate (listed total' chosen_then) serves_now
+      by_choice None c = absurd (c plate (listed total' chosen_then) serves_now)
 
   -- 13 before, none of 2 to 13 now
-  newly_sufficient : (f : BlindFlangeFigures) → UnderANewton s → (choice : Option ℕ) → NeverRises s (Refused 13 0) (chosen f choice)
+  newly_sufficient : (f : BlindFlangeFigures) → UnderANewton s → (choice : Option Plate) → NeverRises s (Refused 13 0) (chosen f choice)
   newly_sufficient f short choice = record {
     accepted = λ e. absurd (omega (arith, e));
     no_plate = λ e. absurd (omega (arith, e));
@@ -118,11 +132,11 @@ module _ (s : BlindFlangeSheet) (plates : List ℕ) where
     refused = λ n n'. absurd (n' refl);
   }
     where
-      answered_or_14 : (choice : Option ℕ) → Accepted (chosen f choice) ⊎ (cause_of (chosen f choice) ≡ 14)
+      answered_or_14 : (choice : Option Plate) → Accepted (chosen f choice) ⊎ (cause_of (chosen f choice) ≡ 14)
       answered_or_14 (Some plate) = inl refl
       answered_or_14 None = inr refl
 
-      not_13 : (choice : Option ℕ) → cause_of (chosen f choice) ≢ 13
+      not_13 : (choice : Option Plate) → cause_of (chosen f choice) ≢ 13
       not_13 (Some plate) e = omega (arith, e)
       not_13 None e = omega (arith, e)
 
@@ -190,7 +204,7 @@ former_answered (endplate s plates) = endplate_answer s plates
 former_answered (blind_flange s plates) = former_answer s plates
 
 pub text_never_rises :
-    (text : List ℕ) (s : BlindFlangeSheet) (plates : List ℕ) →
+    (text : List ℕ) (s : BlindFlangeSheet) (plates : List Plate) →
     sheet_of text ≡ blind_flange s plates →
     NeverRises s (former_answered (sheet_of text)) (answer_of text)
 unfolding answer_of
@@ -222,8 +236,8 @@ light_cover : BlindFlangeSheet
 light_cover = blind_flange_call 1 150 200 100 3150 100 0 0 50 14 3450 16 1441 4 54 27
 
 newly_carried :
-    (former_answer light_cover (1000 ∷ []) ≡ Refused 13 0)
-    × (report_of (blind_flange_answer light_cover (1000 ∷ []))
+    (former_answer light_cover (thinner_by 0 1000 ∷ []) ≡ Refused 13 0)
+    × (report_of (blind_flange_answer light_cover (thinner_by 0 1000 ∷ []))
     ≡ 108 ∷ 108 ∷ 3050 ∷ 500 ∷ 155627 ∷ 67039 ∷ 311255 ∷ 835 ∷ 601 ∷ 935 ∷ 1000 ∷ [])
 unfolding light_cover column design_stress_of ceil_div whole_root_by least_root least_root_over wide_width effective_width_of
     reaction_diameter_of exact_operating_load exact_seating_load operating_load_of seating_load_of flange_load_of gasket_of bolts_sufficient
@@ -236,12 +250,12 @@ small_cover : BlindFlangeSheet
 small_cover = blind_flange_call 1 100 20 0 1000 100 0 0 50 0 1300 12 763 4 10 10
 
 thinner :
-    (report_of (former_answer small_cover (251 ∷ 300 ∷ []))
+    (report_of (former_answer small_cover (thinner_by 0 251 ∷ thinner_by 0 300 ∷ []))
     ≡ 108 ∷ 108 ∷ 900 ∷ 500 ∷ 156 ∷ 0 ∷ 1604 ∷ 104 ∷ 252 ∷ 252 ∷ 300 ∷ [])
-    × (report_of (blind_flange_answer small_cover (251 ∷ 300 ∷ []))
+    × (report_of (blind_flange_answer small_cover (thinner_by 0 251 ∷ thinner_by 0 300 ∷ []))
     ≡ 108 ∷ 108 ∷ 900 ∷ 500 ∷ 1555 ∷ 0 ∷ 16038 ∷ 103 ∷ 251 ∷ 251 ∷ 251 ∷ [])
-    × (former_answer small_cover (251 ∷ []) ≡ Refused 14 252)
-    × (cause_of (blind_flange_answer small_cover (251 ∷ [])) ≡ 0)
+    × (former_answer small_cover (thinner_by 0 251 ∷ []) ≡ Refused 14 252)
+    × (cause_of (blind_flange_answer small_cover (thinner_by 0 251 ∷ [])) ≡ 0)
 unfolding small_cover column design_stress_of ceil_div whole_root_by least_root least_root_over wide_width effective_width_of
     reaction_diameter_of exact_operating_load exact_seating_load operating_load_of seating_load_of flange_load_of gasket_of bolts_sufficient
     flange_thickness edge_under blind_flange_figures first_of flange_limits bolts_causes blind_flange_causes blind_flange_sizing

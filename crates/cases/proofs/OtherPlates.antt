@@ -1,8 +1,9 @@
 -- Sheets that differ in their plates alone: another reading of the plates line, or another plates line. Assumes nothing.
-use Rattle.std.proofs.Common.{◌≡◌, ℕ, ◌+◌, Bool, true, false, cond, ◌&&◌, T, eqb, List, [], ◌∷◌, ◌++◌, length, refl, ap, ◌∙◌, arith, length-append, ne_eqb, eqb-true}
+use Rattle.std.proofs.Common.{◌≡◌, ℕ, ◌+◌, Bool, true, false, not, cond, ◌&&◌, T, eqb, List, [], ◌∷◌, ◌++◌, length, sym, refl, ap, ◌∙◌, arith, length-append, ne_eqb, eqb-true}
 use lib.Ieee.Bits.{is_true}
 use Rattle.text.specs.Index.{index_of, index_after}
 use Rattle.tables.specs.TableRule.{every, both}
+use Rattle.plates.specs.declared.Plate.{Plate}
 use Rattle.text.specs.Ascii.{ascii, line_feed}
 use Rattle.text.specs.Line.{is_line, value_of, after}
 use Rattle.text.specs.Plates.{plates_of}
@@ -18,14 +19,14 @@ use Rattle.cases.proofs.LineByItself.{is_same, value_same, line_same, part_same}
 
 -- how the value of a plates line is read
 abbrev pub Reading : Type 0
-Reading = List ℕ → Option (List ℕ)
+Reading = List ℕ → Option (List Plate)
 
 -- part=end, part=blind, or neither
 abbrev pub sheet_by_part : Bool → Bool → Sheet → Sheet → Sheet
 sheet_by_part isEnd isBlind endplateOf blindFlangeOf = cond isEnd endplateOf (cond isBlind blindFlangeOf (malformed 1))
 
 module _ (reading : Reading) where
-  abbrev pub plates_by : List ℕ → Option (List ℕ)
+  abbrev pub plates_by : List ℕ → Option (List Plate)
   plates_by t = let key = ascii "plates" in cond (is_line key t) (reading (value_of key t)) None
 
   abbrev pub lines_by : ℕ → List Field → List ℕ → Lines
@@ -64,15 +65,36 @@ agree_lines :
     (p q : Reading) (line : ℕ) (fs : List Field) (t : List ℕ) →
     plates_by p (past fs t) ≡ plates_by q (past fs t) →
     lines_by p line fs t ≡ lines_by q line fs t
-agree_lines p q line [] t e = ap (λ (o : Option (List ℕ)). last_line line o (after line_feed t)) e
+agree_lines p q line [] t e = ap (λ (o : Option (List Plate)). last_line line o (after line_feed t)) e
 agree_lines p q line (f ∷ fs) t e = ap (ahead line (field_of f t)) (agree_lines p q (line + 1) fs (after line_feed t) e)
 
-pub agree :
+agree :
     (p q : Reading) (blind : Bool) (text : List ℕ) →
     let t = past (fields_of blind) (after line_feed text) in
     plates_by p t ≡ plates_by q t →
     part_by p blind text ≡ part_by q blind text
 agree p q blind text e = ap (read blind) (agree_lines p q 2 (fields_of blind) (after line_feed text) e)
+
+-- where the plates line of a sheet must be
+abbrev pub after_fields : List ℕ → List ℕ
+after_fields text = past (fields_of (not (is_part (ascii "end") text))) (after line_feed text)
+
+-- a reading that agrees there with the present one reads the same sheet
+pub read_alike :
+    (p : Reading) (text : List ℕ) →
+    plates_by plates_of (after_fields text) ≡ plates_by p (after_fields text) →
+    sheet_of text ≡ sheet_by p text
+read_alike p text e = sym (present text) ∙ by_part (is_part (ascii "end") text) (is_part (ascii "blind") text) e
+  where
+    by_part :
+        (end blind : Bool) →
+        let t = past (fields_of (not end)) (after line_feed text) in
+        plates_by plates_of t ≡ plates_by p t →
+        sheet_by_part end blind (part_by plates_of false text) (part_by plates_of true text)
+        ≡ sheet_by_part end blind (part_by p false text) (part_by p true text)
+    by_part true blind e = agree plates_of p false text e
+    by_part false true e = agree plates_of p true text e
+    by_part false false e = refl
 
 -- ---- another plates line
 
@@ -87,23 +109,23 @@ AreLines [] = Unit
 AreLines (u ∷ us) = Lacks line_feed u × AreLines us
 
 -- the same with other plates
-abbrev lines_with : List ℕ → Lines → Lines
+abbrev lines_with : List Plate → Lines → Lines
 lines_with plates (fault k) = fault k
 lines_with plates (given v others) = given v plates
 
-abbrev pub with_plates : List ℕ → Sheet → Sheet
+abbrev pub with_plates : List Plate → Sheet → Sheet
 with_plates plates (malformed line) = malformed line
 with_plates plates (endplate s others) = endplate s plates
 with_plates plates (blind_flange s others) = blind_flange s plates
 
 ahead_with :
-    (plates : List ℕ) (line : ℕ) (n : Option ℕ) (l : Lines) →
+    (plates : List Plate) (line : ℕ) (n : Option ℕ) (l : Lines) →
     ahead line n (lines_with plates l) ≡ lines_with plates (ahead line n l)
 ahead_with plates line (Some x) (fault k) = refl
 ahead_with plates line (Some x) (given v others) = refl
 ahead_with plates line None l = refl
 
-read_with : (plates : List ℕ) (blind : Bool) (l : Lines) → read blind (lines_with plates l) ≡ with_plates plates (read blind l)
+read_with : (plates : List Plate) (blind : Bool) (l : Lines) → read blind (lines_with plates l) ≡ with_plates plates (read blind l)
 read_with plates true (fault k) = refl
 read_with plates false (fault k) = refl
 read_with plates true (given v others) = refl
@@ -122,7 +144,7 @@ some_text (u ∷ us) value =
 module _ (reading : Reading) where
   -- the last line by itself
   last_line_lem :
-      (value plates : List ℕ) →
+      (value : List ℕ) (plates : List Plate) →
       Lacks line_feed value →
       reading value ≡ Some plates →
       (line : ℕ) →
@@ -134,7 +156,7 @@ module _ (reading : Reading) where
       rw (ended u lacks [], value_line u lacks (ascii "plates") [], after_line u lacks [], e)
 
   module _
-      (value other plates others : List ℕ)
+      (value other : List ℕ) (plates others : List Plate)
       (l : Lacks line_feed value)
       (l' : Lacks line_feed other)
       (e : reading value ≡ Some plates)
@@ -161,7 +183,7 @@ module _ (reading : Reading) where
         (by_plates (plates_by reading (u ++ line_feed ∷ t')))
       where
         by_plates :
-            (o : Option (List ℕ)) →
+            (o : Option (List Plate)) →
             last_line line o (sheet_text us value) ≡ lines_with plates (last_line line o (sheet_text us other))
         by_plates None = refl
         by_plates (Some ps) = rw (some_text us value, some_text us other)

@@ -1,9 +1,10 @@
 -- Pass partition ribs (R-4): without a rib every answer to numbers is the former one, loads being in tenths of a newton in
 -- both. Assumes nothing.
-use Rattle.std.proofs.Common.{◌≡◌, ℕ, ◌+◌, ◌*◌, List, [], ◌∷◌, refl, ap, ◌∙◌, arith}
+use Rattle.std.proofs.Common.{◌≡◌, ℕ, ◌+◌, ◌*◌, List, [], ◌∷◌, map, refl, ap, ◌∙◌, arith}
 use Rattle.tables.specs.DesignStress.{column, design_stress_of}
 use Rattle.root.specs.Root.{ceil_div, whole_root_by, least_root, least_root_over}
-use Rattle.plates.specs.Plates.{smallest_serving}
+use Rattle.plates.specs.declared.Plate.{Plate}
+use Rattle.plates.specs.Plates.{smallest_serving, thinner_by}
 use Rattle.limits.specs.Causes.{Causes, first_of, first_cause}
 use Rattle.limits.specs.Limits.{endplate_causes, flange_limits}
 use Rattle.limits.specs.Laws.{number_idle}
@@ -58,10 +59,10 @@ causes_under V1 V2 s =
 abbrev former_cause : BlindFlangeSheet → ℕ
 former_cause s = first_of former_order (causes_under (former_operating_load s) (former_seating_load s) s)
 
-abbrev pub former_answer : BlindFlangeSheet → List ℕ → Answer
+abbrev pub former_answer : BlindFlangeSheet → List Plate → Answer
 former_answer s plates = from_plates (blind_flange_unless (former_cause s) (former_figures s)) plates
 
-abbrev pub former_endplate_answer : EndplateSheet → List ℕ → Answer
+abbrev pub former_endplate_answer : EndplateSheet → List Plate → Answer
 former_endplate_answer s plates =
     from_plates (endplate_unless (first_of former_order (endplate_causes s)) (endplate_figures s)) plates
 
@@ -88,7 +89,7 @@ ribbed rib width s = record {
 }
 
 -- the former answer looks at neither of its numbers
-pub looks_at_neither : (s : BlindFlangeSheet) (rib width : ℕ) (plates : List ℕ) →
+pub looks_at_neither : (s : BlindFlangeSheet) (rib width : ℕ) (plates : List Plate) →
     former_answer (ribbed rib width s) plates ≡ former_answer s plates
 unfolding ribbed first_of flange_limits
 looks_at_neither s rib width plates = refl
@@ -124,12 +125,12 @@ module _ (s : BlindFlangeSheet) where
       ∙ ap (λ (V2 : ℕ). first_of former_order (causes_under (former_operating_load s) V2 none)) seating
 
   -- every figure and every cause
-  pub no_rib : (plates : List ℕ) → blind_flange_answer none plates ≡ former_answer s plates
+  pub no_rib : (plates : List Plate) → blind_flange_answer none plates ≡ former_answer s plates
   unfolding blind_flange_answer blind_flange_sizing
   no_rib plates = rw (cause_kept, figures_kept)
 
 -- an endplate has no 17
-pub endplate_kept : (s : EndplateSheet) (plates : List ℕ) → endplate_answer s plates ≡ former_endplate_answer s plates
+pub endplate_kept : (s : EndplateSheet) (plates : List Plate) → endplate_answer s plates ≡ former_endplate_answer s plates
 unfolding endplate_answer endplate_sizing first_of endplate_causes
 endplate_kept s plates = refl
 
@@ -139,7 +140,7 @@ printed : BlindFlangeSheet
 printed = blind_flange_call 1 150 1000 100 5000 100 0 0 200 110 5600 20 2250 16 100 100
 
 abbrev with_rib : ℕ → ℕ → Answer
-with_rib rib width = blind_flange_answer (ribbed rib width printed) (2500 ∷ 3200 ∷ 4000 ∷ [])
+with_rib rib width = blind_flange_answer (ribbed rib width printed) (map (thinner_by 0) (2500 ∷ 3200 ∷ 4000 ∷ []))
 
 -- its b is 5 mm: Wm1 grows by 2·5·490·2·1 = 9800.0 N from 219250.5 N, Wm2 by 5·490·11 = 26950.0 N from
 -- 84623.0 N

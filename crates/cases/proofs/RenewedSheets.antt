@@ -8,6 +8,7 @@ use Rattle.text.specs.Index.{index_of, index_after}
 use Rattle.tables.specs.TableRule.{every, both}
 use Rattle.limits.specs.declared.BlindFlangeSheet.{BlindFlangeSheet}
 use Rattle.rules.specs.Answer.{blind_flange_answer}
+use Rattle.plates.specs.declared.Plate.{Plate}
 use Rattle.text.specs.Ascii.{ascii, line_feed}
 use Rattle.text.specs.Line.{is_line, value_of, before, after}
 use Rattle.text.specs.Number.{number_of}
@@ -87,7 +88,7 @@ unfolding lines_of
 any_number [] line line' t = by_plates (plates_line t) (eqb (length (after line_feed t)) 0) refl
   where
     by_plates :
-        (o : Option (List ℕ)) (last : Bool) →
+        (o : Option (List Plate)) (last : Bool) →
         eqb (length (after line_feed t)) 0 ≡ last →
         PutIn 0 [] (last_line line o (after line_feed t)) (last_line line' o (after line_feed t))
     by_plates None last e = tt
@@ -169,7 +170,7 @@ unfolding lines_of
 sized [] line t = by_plates (plates_line t) (eqb (length (after line_feed t)) 0) refl
   where
     by_plates :
-        (o : Option (List ℕ)) (last : Bool) →
+        (o : Option (List Plate)) (last : Bool) →
         eqb (length (after line_feed t)) 0 ≡ last →
         Sized 0 (last_line line o (after line_feed t))
     by_plates None last e = tt

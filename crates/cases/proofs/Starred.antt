@@ -20,7 +20,7 @@ use Rattle.rules.specs.Answer.{endplate_sizing, blind_flange_sizing, endplate_an
 use Rattle.text.specs.Ascii.{ascii, line_feed}
 use Rattle.text.specs.Line.{before, after, value_of}
 use Rattle.text.specs.Number.{number_of}
-use Rattle.text.specs.Plates.{numbers_listed, plates_of}
+use Rattle.text.specs.Plates.{entry_of, plates_listed, plates_of}
 use Rattle.report.specs.Decimal.{decimal, number_line}
 use Rattle.report.specs.Report.{report_text}
 use Rattle.lines.specs.Fields.{line_of}
@@ -147,7 +147,7 @@ unfolding column design_stress_of ceil_div whole_root_by least_root least_root_o
     wide_width effective_width_of reaction_diameter_of exact_operating_load exact_seating_load operating_load_of seating_load_of
     flange_load_of gasket_of bolts_sufficient flange_thickness edge_under endplate_figures blind_flange_figures endplate_causes
     first_of flange_limits bolts_causes blind_flange_causes endplate_sizing blind_flange_sizing smallest_serving endplate_answer
-    blind_flange_answer index_of index_after before after value_of number_of numbers_listed plates_of decimal number_line
+    blind_flange_answer index_of index_after before after value_of number_of entry_of plates_listed plates_of decimal number_line
     report_text line_of plates_line lines_of part_of sheet_of answer_of
 starred = refl
 

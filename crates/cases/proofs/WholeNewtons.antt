@@ -3,6 +3,7 @@
 use Rattle.std.proofs.Common.{◌≡◌, ℕ, zero, suc, ◌+◌, ◌-◌, ◌*◌, ◌^◌, ◌<◌, ◌≤◌, max, Bool, true, ◌&&◌, leb, List, refl, mul-le-mul_right, arith, le-leb, leb-true}
 use mathlib.Core.Bool.{and-eq-true_iff}
 use Rattle.tables.specs.DesignStress.{design_stress_of}
+use Rattle.plates.specs.declared.Plate.{Plate}
 use Rattle.root.specs.Least.{least_most}
 use Rattle.root.specs.Root.{ceil_div, least_root_over}
 use Rattle.root.proofs.Laws.{ceil_div-zero, ceil_div-le, ceil_div_least, ceil_div_excess, ceil_div_unique}
@@ -69,7 +70,7 @@ abbrev pub former_figures : BlindFlangeSheet → BlindFlangeFigures
 former_figures s =
     figures_with s (former_operating_load s) (former_seating_load s) (former_flange_load s) (former_thickness s) (former_edge s)
 
-abbrev pub former_answer : BlindFlangeSheet → List ℕ → Answer
+abbrev pub former_answer : BlindFlangeSheet → List Plate → Answer
 former_answer s plates =
     from_plates (blind_flange_unless (first_cause (causes_with s (former_sufficient s))) (former_figures s)) plates
 

@@ -1,17 +1,28 @@
-// Writing of a calculation's answer: the cause, its figure, and the figures of the report; then the figures by place.
+// Writing of a calculation's answer: the cause, its figure, the figures of the report, and the plate with its minus; then
+// the figures by place.
+use plates::Plate;
 use rules::{Answer, BlindFlangeFigures, EndplateFigures, Size};
 use std::io;
 
-fn endplate(rt: &impl Print, figures: EndplateFigures, plate: u32) -> io::Result<()> {
+pub(crate) fn chosen(rt: &impl Print, plate: Plate) -> io::Result<()> {
+    let Plate {
+        thickness,
+        under_tolerance,
+    } = plate;
+    print!(rt; " {thickness}:{under_tolerance}")
+}
+
+fn endplate(rt: &impl Print, figures: EndplateFigures, plate: Plate) -> io::Result<()> {
     let EndplateFigures {
         design_stress,
         thickness,
         total,
     } = figures;
-    print!(rt; " = 0 0 {design_stress} {thickness} {total} {plate}")
+    print!(rt; " = 0 0 {design_stress} {thickness} {total}")?;
+    chosen(rt, plate)
 }
 
-fn blind_flange(rt: &impl Print, figures: BlindFlangeFigures, plate: u32) -> io::Result<()> {
+fn blind_flange(rt: &impl Print, figures: BlindFlangeFigures, plate: Plate) -> io::Result<()> {
     let BlindFlangeFigures {
         design_stress,
         ambient_stress,
@@ -26,8 +37,9 @@ fn blind_flange(rt: &impl Print, figures: BlindFlangeFigures, plate: u32) -> io:
     } = figures;
     print!(rt;
         " = 0 0 {design_stress} {ambient_stress} {reaction_diameter} {effective_width} {operating_load} {seating_load} \
-         {flange_load} {thickness} {edge_thickness} {total} {plate}"
-    )
+         {flange_load} {thickness} {edge_thickness} {total}"
+    )?;
+    chosen(rt, plate)
 }
 
 pub(crate) fn answered(rt: &impl Print, answer: Answer) -> io::Result<()> {

@@ -4,14 +4,14 @@
 use crate::answers::{answered, by_place};
 use crate::words::{bytes_of, words};
 use capi::{scantling_blind_flange, scantling_blind_flange_standard};
-use plates::standard_plates;
+use plates::{in_numbers, standard_plates};
 use rules::BlindFlangeSheet;
 use std::io;
 
 // Two past the report's last.
 const PLACES: u32 = 15;
 
-// The sheet, and what follows its numbers.
+// The sheet, and what follows its numbers: the plates, two numbers each.
 fn sheet_of(numbers: &[u32]) -> Option<(BlindFlangeSheet, &[u32])> {
     let (own, plates) = numbers.split_first_chunk::<16>()?;
     Some((BlindFlangeSheet::from(*own), plates))
@@ -23,7 +23,7 @@ pub(crate) fn blind_flange(rt: &(impl Print + Alloc), numbers: &[u64]) -> io::Re
         return Ok(());
     };
     let bytes = bytes_of(rt.alloc(), plates)?;
-    answered(rt, rules::blind_flange(s, plates))?;
+    answered(rt, rules::blind_flange(s, in_numbers(plates)))?;
     by_place(rt, PLACES, |place| {
         scantling_blind_flange(
             s.material,

@@ -4,14 +4,14 @@
 use crate::answers::{answered, by_place};
 use crate::words::{bytes_of, words};
 use capi::{scantling_endplate, scantling_endplate_standard};
-use plates::standard_plates;
+use plates::{in_numbers, standard_plates};
 use rules::EndplateSheet;
 use std::io;
 
 // Two past the report's last.
 const PLACES: u32 = 8;
 
-// The sheet, and what follows its numbers.
+// The sheet, and what follows its numbers: the plates, two numbers each.
 fn sheet_of(numbers: &[u32]) -> Option<(EndplateSheet, &[u32])> {
     let (own, plates) = numbers.split_first_chunk::<7>()?;
     Some((EndplateSheet::from(*own), plates))
@@ -23,7 +23,7 @@ pub(crate) fn endplate(rt: &(impl Print + Alloc), numbers: &[u64]) -> io::Result
         return Ok(());
     };
     let bytes = bytes_of(rt.alloc(), plates)?;
-    answered(rt, rules::endplate(s, plates))?;
+    answered(rt, rules::endplate(s, in_numbers(plates)))?;
     by_place(rt, PLACES, |place| {
         scantling_endplate(
             s.form,

@@ -2,6 +2,7 @@
 // given the numbers after that. Numbers that do not suit the kind have no answer.
 use crate::arithmetic::{design_stress, quotient, root, root_over};
 use crate::blind_flange::{blind_flange, blind_flange_standard};
+use crate::choice::smallest_serving;
 use crate::endplate::{endplate, endplate_standard};
 use crate::line::{read_numbers, text_of};
 use crate::sheets::sheet;
@@ -25,6 +26,7 @@ enum Kind {
     RootOver,
     EndplateStandard,
     BlindFlangeStandard,
+    SmallestServing,
 }
 
 // A number that names no kind.
@@ -51,6 +53,7 @@ impl TryFrom<u64> for Kind {
             7 => Ok(Kind::RootOver),
             8 => Ok(Kind::EndplateStandard),
             9 => Ok(Kind::BlindFlangeStandard),
+            10 => Ok(Kind::SmallestServing),
             _ => Err(NoSuchKind),
         }
     }
@@ -68,6 +71,7 @@ impl Kind {
             Kind::RootOver => root_over(rt, numbers),
             Kind::EndplateStandard => endplate_standard(rt, numbers),
             Kind::BlindFlangeStandard => blind_flange_standard(rt, numbers),
+            Kind::SmallestServing => smallest_serving(rt, numbers),
         }
     }
 }

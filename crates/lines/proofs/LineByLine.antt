@@ -1,6 +1,7 @@
 -- The lines of a sheet, one by one. Assumes nothing.
 use Rattle.std.proofs.Common.{Bool, true, false, cond, ℕ, ◌+◌, ◌≤◌, ◌<◌, List, [], ◌∷◌, ◌++◌, ◌≡◌, refl, sym, ap, map, length, take, drop, set, get_or, arith, add-one, append_assoc, append-nil, drop-cons, drop_of_length-le, take_all, eq-eqb, take-suc-set}
 use Rattle.std.specs.Prelude.{Option, Some, None}
+use Rattle.plates.specs.declared.Plate.{Plate}
 use Rattle.text.specs.Ascii.{line_feed}
 use Rattle.std.specs.Option.{option_and_then}
 use Rattle.text.specs.Line.{after, is_line, value_of, line_value}
@@ -60,7 +61,7 @@ unfolding lines_of
 lines_last fields t i h = rw (drop_of_length-le fields h)
 
 -- and with it the sheet, if nothing follows it
-pub lines_end : (fields : List Field) (t : List ℕ) (i : ℕ) (values plates : List ℕ) → length fields ≤ i → length values ≤ i
+pub lines_end : (fields : List Field) (t : List ℕ) (i : ℕ) (values : List ℕ) (plates : List Plate) → length fields ≤ i → length values ≤ i
     → Some plates ≡ plates_line t → length (after line_feed t) ≡ 0
     → prepend (take i values) (lines_from i fields t) ≡ given values plates
 lines_end fields t i values plates h k e n =

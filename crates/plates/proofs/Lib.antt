@@ -1,3 +1,4 @@
--- Laws: for callers. InBytes: what the proof of `in_bytes` cites.
+-- Laws: for callers. LeastByKey, Chunks: what the proofs of functions cite.
 pub mod Laws
-mod InBytes
+mod LeastByKey
+mod Chunks

@@ -1,3 +1,3 @@
 -- What the contracts of plates cite.
-pub mod Bytes
+pub mod Entries
 pub mod Plates

@@ -1,64 +1,68 @@
--- What a plate is, and the choice of one (document 01). Plates and the total in hundredths of a mm.
-use Rattle.std.specs.Prelude.{ℕ, ◌≤◌, Bool, true, false, ◌&&◌, ◌||◌, cond, leb, ltb, Option, Some, None}
-use mathlib.Core.List.{List, [], ◌∷◌, foldl, map, Memᴰ}
-use Rattle.plates.specs.Bytes.{numbers_in}
+-- Which plate serves, and the choice of one (document 01; document 02, R-13). Thickness, minus (`under_tolerance`) and total in
+-- hundredths of a mm.
+use Rattle.std.specs.Prelude.{ℕ, ◌-◌, ◌≤◌, ◌<◌, ◌≡◌, Bool, true, false, ◌&&◌, ◌||◌, cond, leb, ltb, Option, Some, None}
+use mathlib.Core.List.{List, [], ◌∷◌, ◌++◌, foldl, map, Memᴰ}
+use Rattle.plates.specs.declared.Plate.{Plate}
 
--- a plate serves if it is not below the total
-abbrev pub serves : ℕ → ℕ → Bool
-serves total plate = leb total plate
+-- a plate serves if its thickness less its minus is not below the total; one whose minus exceeds its thickness never serves
+abbrev pub serves : ℕ → Plate → Bool
+serves total plate = leb plate.under_tolerance plate.thickness && leb total (plate.thickness - plate.under_tolerance)
 
 -- one of a list serves
-abbrev pub any_serves : ℕ → List ℕ → Bool
+abbrev pub any_serves : ℕ → List Plate → Bool
 any_serves total plates = foldl ◌||◌ false (map (serves total) plates)
 
--- smaller than the choice so far; any plate is, where there is none yet
-abbrev pub smaller : ℕ → Option ℕ → Bool
-smaller plate (Some chosen) = ltb plate chosen
+-- nominally smaller than the choice so far; any plate is, where there is none yet
+abbrev pub smaller : Plate → Option Plate → Bool
+smaller plate (Some chosen) = ltb plate.thickness chosen.thickness
 smaller plate None = true
 
 -- the choice, with one plate more: the first of equals stays
-abbrev pub better : ℕ → Option ℕ → ℕ → Option ℕ
+abbrev pub better : ℕ → Option Plate → Plate → Option Plate
 better total choice plate = cond (serves total plate && smaller plate choice) (Some plate) choice
 
--- the smallest serving plate of a list, the first of equals
-unfoldable pub smallest_serving : ℕ → List ℕ → Option ℕ
+-- the plate of a list that serves and is nominally smallest, the first of equals
+unfoldable pub smallest_serving : ℕ → List Plate → Option Plate
 smallest_serving total plates = foldl (better total) None plates
 
--- plate: the one chosen; 0 where there is none
-abbrev pub plate_of : Option ℕ → ℕ
-plate_of (Some plate) = plate
+-- plate: the thickness of the one chosen, without its minus; 0 where there is none
+abbrev pub plate_of : Option Plate → ℕ
+plate_of (Some plate) = plate.thickness
 plate_of None = 0
 
 -- a plate is chosen
-abbrev pub is_chosen : Option ℕ → Bool
+abbrev pub is_chosen : Option Plate → Bool
 is_chosen (Some plate) = true
 is_chosen None = false
 
--- C's list: each number in its bytes is a plate
-abbrev pub plates_in : List ℕ → List ℕ
-plates_in bytes = numbers_in bytes
+-- a plate by its minus and its thickness: thinner_by 30 300 is 300:30 of a list
+abbrev pub thinner_by : ℕ → ℕ → Plate
+thinner_by under_tolerance thickness = record { thickness = thickness; under_tolerance = under_tolerance }
 
--- the usual stock (document 02, R-8)
-unfoldable pub standard_plates : List ℕ
+-- the usual stock (document 02, R-8 and R-13): each may be 0.30 mm thinner
+unfoldable pub standard_plates : List Plate
 standard_plates =
-    300 ∷ 400 ∷ 500 ∷ 600 ∷ 800 ∷ 1000 ∷ 1200 ∷ 1500 ∷ 2000 ∷ 2500 ∷ 3000 ∷ 4000 ∷ 5000 ∷ []
+    map (thinner_by 30) (300 ∷ 400 ∷ 500 ∷ 600 ∷ 800 ∷ 1000 ∷ 1200 ∷ 1500 ∷ 2000 ∷ 2500 ∷ 3000 ∷ 4000 ∷ 5000 ∷ [])
 
 -- ---- what the plate rule asks of a choice
 
-abbrev pub Listed : ℕ → List ℕ → Type 0
+abbrev pub Listed : Plate → List Plate → Type 0
 Listed plate plates = Memᴰ plate plates
 
--- the choice is not above a plate; where none is chosen this holds of no plate
-abbrev pub NotAbove : Option ℕ → ℕ → Type 0
-NotAbove (Some chosen) plate = chosen ≤ plate
-NotAbove None plate = ⊥
+abbrev pub Serves : ℕ → Plate → Type 0
+Serves total plate = (plate.under_tolerance ≤ plate.thickness) × (total ≤ plate.thickness - plate.under_tolerance)
 
--- the plate chosen is of the list, and serves
-abbrev pub Offered : ℕ → List ℕ → Option ℕ → Type 0
-Offered total plates (Some chosen) = Listed chosen plates × (total ≤ chosen)
-Offered total plates None = Unit
+-- the plate chosen is of the list and serves; no plate that serves is nominally smaller, and those that serve before it are
+-- larger: it is the first of equals
+pub record Smallest (total : ℕ) (plates : List Plate) (chosen : Plate) : Type 0 where
+  pub before : List Plate
+  pub after : List Plate
+  pub place : plates ≡ before ++ chosen ∷ after
+  pub serving : Serves total chosen
+  pub larger : (plate : Plate) → Listed plate before → Serves total plate → chosen.thickness < plate.thickness
+  pub least : (plate : Plate) → Listed plate plates → Serves total plate → chosen.thickness ≤ plate.thickness
 
--- the choice is not above any listed plate that serves: so none is refused while one serves, and none smaller would do
-pub record Smallest (total : ℕ) (plates : List ℕ) (choice : Option ℕ) : Type 0 where
-  pub offered : Offered total plates choice
-  pub least : (plate : ℕ) → Listed plate plates → total ≤ plate → NotAbove choice plate
+-- and none is chosen only where none serves
+abbrev pub Chosen : ℕ → List Plate → Option Plate → Type 0
+Chosen total plates (Some plate) = Smallest total plates plate
+Chosen total plates None = (plate : Plate) → Listed plate plates → ¬ Serves total plate

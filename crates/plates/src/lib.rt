@@ -1,50 +1,92 @@
-// What a plate is, and the choice of one from a list. A plate is its thickness, in hundredths of a mm.
+// What a plate is, and the choice of one from a list. Hundredths of a mm.
 #![tactic(auto)]
 
-ghost use Rattle.std.specs.Prelude.{◌≡◌, ℕ};
+ghost use Rattle.std.specs.Prelude.{◌≡◌};
 ghost use mathlib.Core.List.{map};
-ghost use Rattle.plates.specs.Plates.{smallest_serving, standard_plates, Smallest};
+ghost use Rattle.plates.specs.Plates.{serves, smallest_serving, standard_plates, thinner_by, Chosen};
 
-mod bytes;
+mod entries;
 
-pub use bytes::in_bytes;
+pub use entries::{in_bytes, in_numbers};
 
-// A plate as an entry of a list.
-pub trait Plate: Copy {
-    ghost thickness_of: { Self → ℕ };
-
-    fn thickness(self) -> u32
-        ensures { result ≡ thickness_of self };
+// A plate of a list or of the usual stock.
+#[derive(Clone, Copy, Default)]
+pub struct Plate {
+    // Nominal.
+    pub thickness: u32,
+    // minus: by how much it may come thinner.
+    pub under_tolerance: u32,
 }
 
-impl Plate for u32 {
-    ghost thickness_of = { λ plate. plate };
+impl Plate {
+    // Whether thickness less minus is not below the total; never where the minus exceeds the thickness.
+    fn serves(self, total: u64) -> bool
+        ensures { result ≡ serves total self }
+    {
+        self.thickness
+            .checked_sub(self.under_tolerance)
+            .is_some_and(|least| total <= u64::from(least))
+    }
+}
 
-    fn thickness(self) -> u32 {
+// What may stand for a plate in a list: a plate, two numbers, or C's eight bytes.
+pub trait Entry: Copy {
+    ghost use Rattle.plates.specs.declared.Plate.{Plate};
+
+    ghost plate_of: { Self → Plate };
+
+    fn plate(self) -> Plate
+        ensures { result ≡ plate_of self };
+}
+
+impl Entry for Plate {
+    ghost plate_of = { λ plate. plate };
+
+    fn plate(self) -> Plate {
         self
     }
 }
 
-// The smallest plate of the list that is not below the total, the first of equals.
-pub fn smallest_serving<P: Plate>(total: u64, plates: &[P]) -> Option<u32>
-    ensures value { result ≡ smallest_serving total (map P.thickness_of plates.now) }
-    ensures smallest { Smallest total (map P.thickness_of plates.now) result }
+// The plate of the list that serves for the total and is nominally smallest, the first of equals.
+pub fn smallest_serving<E: Entry>(total: u64, entries: &[E]) -> Option<Plate>
+    ensures value { result ≡ smallest_serving total (map E.plate_of entries.now) }
+    ensures smallest { Chosen total (map E.plate_of entries.now) result }
 {
-    plates
+    entries
         .iter()
-        .map(|plate| plate.thickness())
-        .filter(|thickness| total <= u64::from(*thickness))
-        .min()
+        .map(|entry| entry.plate())
+        .filter(|plate| plate.serves(total))
+        .min_by_key(|plate| plate.thickness)
 }
 
-// The usual stock.
-const STANDARD_PLATES: [u32; 13] = [
-    300, 400, 500, 600, 800, 1000, 1200, 1500, 2000, 2500, 3000, 4000, 5000,
-];
+// A plate of the usual stock: it may come 0.30 mm thinner.
+fn standard(thickness: u32) -> Plate
+    ensures { result ≡ thinner_by 30 thickness }
+{
+    Plate {
+        thickness,
+        under_tolerance: 30,
+    }
+}
 
 // The plates of the usual stock, for a caller who has no list.
-pub fn standard_plates() -> [u32; 13]
+#[tactic(auto, unfolding(crate::specs::Plates::standard_plates))]
+pub fn standard_plates() -> [Plate; 13]
     ensures { result ≡ standard_plates }
 {
-    STANDARD_PLATES
+    [
+        standard(300),
+        standard(400),
+        standard(500),
+        standard(600),
+        standard(800),
+        standard(1000),
+        standard(1200),
+        standard(1500),
+        standard(2000),
+        standard(2500),
+        standard(3000),
+        standard(4000),
+        standard(5000),
+    ]
 }

@@ -46,7 +46,7 @@ pub(crate) fn spell(answer: Answer) -> Text
             (b"stress", figures.design_stress),
             (b"need", figures.thickness),
             (b"total", figures.total),
-            (b"plate", u64::from(plate)),
+            (b"plate", u64::from(plate.thickness)),
         ]),
         Ok(Size::BlindFlange { figures: f, plate }) => text_of(&[
             (b"stress", f.design_stress),
@@ -59,7 +59,7 @@ pub(crate) fn spell(answer: Answer) -> Text
             (b"need", f.thickness),
             (b"edge", f.edge_thickness),
             (b"total", f.total),
-            (b"plate", u64::from(plate)),
+            (b"plate", u64::from(plate.thickness)),
         ]),
         Err(refusal) => text_of(&[
             (b"refused", u64::from(refusal.cause.number())),

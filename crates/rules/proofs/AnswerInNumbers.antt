@@ -8,6 +8,7 @@ use native.Mathlib.Omega.{arith}
 use borrow.Author.Tests.{ne_eqb}
 use lib.Dec.{eqb}
 use Rattle.plates.specs.Plates.{smallest_serving, plate_of, is_chosen}
+use Rattle.plates.specs.declared.Plate.{Plate}
 use Rattle.plates.proofs.Laws.{chosen-serves}
 use Rattle.std.specs.Prelude.{Option, Some, None}
 use Rattle.limits.specs.Causes.{Causes, first_of, first_cause, of_numbers, of_bolting, of_loads, of_plates}
@@ -59,11 +60,11 @@ abbrev pub Told : ℕ → ℕ → List ℕ → Answer → Type 0
 Told cause figure report answer = (cause_of answer ≡ cause) × (figure_of answer ≡ figure) × (report_of answer ≡ report)
 
 -- where nothing before 14 applies: 14 if no plate was chosen
-abbrev last_cause : Option ℕ → ℕ
+abbrev last_cause : Option Plate → ℕ
 last_cause c = cond (not (is_chosen c)) 14 0
 
 -- the numbers of what is sized, with a choice
-abbrev Last : Sizing → List ℕ → Option ℕ → Type 0
+abbrev Last : Sizing → List ℕ → Option Plate → Type 0
 Last sized figures c =
     Told
     (last_cause c)
@@ -72,19 +73,19 @@ Last sized figures c =
     (with_plate sized c)
 
 -- from the causes, the figures and the plates; `sized` is what is answered where no cause applies
-module _ (cs : Causes) (plate-last : (t : Bool) → PlateLast cs t) (sized : Sizing) (figures plates : List ℕ)
+module _ (cs : Causes) (plate-last : (t : Bool) → PlateLast cs t) (sized : Sizing) (figures : List ℕ) (plates : List Plate)
   where
     abbrev total : ℕ
     total = total_of sized
 
-    abbrev choice : Option ℕ
+    abbrev choice : Option Plate
     choice = smallest_serving total plates
 
     cause : cause_from cs total plates ≡ cond (eqb (first_cause cs) 0) (last_cause choice) (first_cause cs)
     cause = (plate-last _).0 ∙ rw (chosen-serves total plates)
 
     pub told :
-        ((c : Option ℕ) → Last sized figures c) →
+        ((c : Option Plate) → Last sized figures c) →
         let k = cause_from cs total plates in
         Told
         k (figure_from k total) (report_from k figures total plates)
@@ -104,24 +105,26 @@ module _ (cs : Causes) (plate-last : (t : Bool) → PlateLast cs t) (sized : Siz
 
 -- ---- both parts
 
-by_choice : (f : EndplateFigures) (c : Option ℕ) → Last (Endplate f) (endplate_list f) c
+by_choice : (f : EndplateFigures) (c : Option Plate) → Last (Endplate f) (endplate_list f) c
 by_choice f (Some plate) = (refl, refl, refl)
 by_choice f None = (refl, refl, refl)
 
-by_flange_choice : (f : BlindFlangeFigures) (c : Option ℕ) → Last (BlindFlange f) (blind_flange_list f) c
+by_flange_choice : (f : BlindFlangeFigures) (c : Option Plate) → Last (BlindFlange f) (blind_flange_list f) c
 by_flange_choice f (Some plate) = (refl, refl, refl)
 by_flange_choice f None = (refl, refl, refl)
 
-pub endplate_numbers : (s : EndplateSheet) (plates : List ℕ) →
+pub endplate_numbers : (s : EndplateSheet) (plates : List Plate) →
     Told (endplate_cause s plates) (endplate_figure s plates) (endplate_report s plates) (endplate_answer s plates)
 unfolding endplate_sizing endplate_answer endplate_cause endplate_figure endplate_report
 endplate_numbers s plates =
-    told (endplate_causes s) (endplate_last s) (Endplate (endplate_figures s)) (endplate_list (endplate_figures s)) plates
-    (by_choice (endplate_figures s))
+    let f = endplate_figures s in
+    told (endplate_causes s) (endplate_last s) (Endplate f) (endplate_list f) plates (by_choice f)
 
-pub flange_numbers : (s : BlindFlangeSheet) (plates : List ℕ) →
-    Told (blind_flange_cause s plates) (blind_flange_figure s plates) (blind_flange_report s plates) (blind_flange_answer s plates)
+pub flange_numbers : (s : BlindFlangeSheet) (plates : List Plate) →
+    Told
+    (blind_flange_cause s plates) (blind_flange_figure s plates) (blind_flange_report s plates)
+    (blind_flange_answer s plates)
 unfolding blind_flange_sizing blind_flange_answer blind_flange_cause blind_flange_figure blind_flange_report
 flange_numbers s plates =
-    told (blind_flange_causes s) (flange_last s) (BlindFlange (blind_flange_figures s)) (blind_flange_list (blind_flange_figures s)) plates
-    (by_flange_choice (blind_flange_figures s))
+    let f = blind_flange_figures s in
+    told (blind_flange_causes s) (flange_last s) (BlindFlange f) (blind_flange_list f) plates (by_flange_choice f)

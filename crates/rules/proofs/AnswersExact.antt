@@ -1,9 +1,9 @@
 -- Demand 3 of every answer, and so the promises of the calls. Assumes nothing.
 use mathlib.Core.Path.{◌≡◌, refl, sym, subst}
 use mathlib.Core.List.{List}
-use Prim.Native.Nat.{ℕ}
 use native.Mathlib.Omega.{arith}
 use Rattle.std.specs.Prelude.{Option, Some, None}
+use Rattle.plates.specs.declared.Plate.{Plate}
 use Rattle.limits.specs.declared.EndplateSheet.{EndplateSheet}
 use Rattle.limits.specs.declared.BlindFlangeSheet.{BlindFlangeSheet}
 use Rattle.rules.specs.Answer.{endplate_sizing, blind_flange_sizing, with_plate, from_plates}
@@ -29,18 +29,18 @@ module _ (s : EndplateSheet) where
   by_choice :
       (f : EndplateFigures) →
       EndplateThicknessExact s f.thickness →
-      (choice : Option ℕ) →
+      (choice : Option Plate) →
       EndplateExact s (with_plate (Endplate f) choice)
   by_choice f h (Some plate) z = h
   by_choice f h None z = absurd (omega (arith, z))
 
-  sized_exact : (choice : Option ℕ) → EndplateExact s (with_plate (endplate_sizing s) choice)
+  sized_exact : (choice : Option Plate) → EndplateExact s (with_plate (endplate_sizing s) choice)
   unfolding endplate_sizing
   sized_exact choice =
       by_cause (λ z. EndplateExact s (with_plate z choice)) (λ cause h z. absurd (h z)) _ _
       (λ e. by_choice _ (endplate_least s e) choice)
 
-  module _ (plates : List ℕ) where
+  module _ (plates : List Plate) where
     pub endplate_exact : EndplateExact s (endplate_answer s plates)
     unfolding endplate_answer
     endplate_exact = sized_exact _
@@ -60,18 +60,18 @@ module _ (s : BlindFlangeSheet) where
   by_flange_choice :
       (f : BlindFlangeFigures) →
       ThicknessExact s f.thickness × EdgeExact s f.edge_thickness →
-      (choice : Option ℕ) →
+      (choice : Option Plate) →
       BlindFlangeExact s (with_plate (BlindFlange f) choice)
   by_flange_choice f h (Some plate) z = h
   by_flange_choice f h None z = absurd (omega (arith, z))
 
-  flange_sized_exact : (choice : Option ℕ) → BlindFlangeExact s (with_plate (blind_flange_sizing s) choice)
+  flange_sized_exact : (choice : Option Plate) → BlindFlangeExact s (with_plate (blind_flange_sizing s) choice)
   unfolding blind_flange_sizing
   flange_sized_exact choice =
       by_cause (λ z. BlindFlangeExact s (with_plate z choice)) (λ cause h z. absurd (h z)) _ _
       (λ e. by_flange_choice _ (thickness_near s e, edge_near s e) choice)
 
-  module _ (plates : List ℕ) where
+  module _ (plates : List Plate) where
     pub flange_exact : BlindFlangeExact s (blind_flange_answer s plates)
     unfolding blind_flange_answer
     flange_exact = flange_sized_exact _

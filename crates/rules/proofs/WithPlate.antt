@@ -1,5 +1,6 @@
 -- What a calculation answers with the plate that was taken or refused. Assumes nothing.
-use Rattle.std.specs.Prelude.{ℕ, Option, Some, None, Result, Ok, Err, ◌≡◌}
+use Rattle.std.specs.Prelude.{Option, Some, None, Result, Ok, Err, ◌≡◌}
+use Rattle.plates.specs.declared.Plate.{Plate}
 use Rattle.rules.specs.Answer.{in_numbers, taken, with_plate}
 use Rattle.rules.specs.Sizing.{Endplate, BlindFlange}
 use Rattle.rules.specs.declared.EndplateFigures.{EndplateFigures}
@@ -9,19 +10,19 @@ use Rattle.rules.specs.declared.Size.{Size}
 use Rattle.rules.specs.declared.Size.TheVariants as sizes
 
 -- an answer of a part whose size this is, with its plate or without
-abbrev pub with_size : (ℕ → Size) → Result ℕ Refusal → Result Size Refusal
+abbrev pub with_size : (Plate → Size) → Result Plate Refusal → Result Size Refusal
 with_size size (Ok plate) = Ok (size plate)
 with_size size (Err refusal) = Err refusal
 
 pub endplate_with :
-    (f : EndplateFigures) (choice : Option ℕ) {plate : Result ℕ Refusal} →
+    (f : EndplateFigures) (choice : Option Plate) {plate : Result Plate Refusal} →
     plate ≡ taken f.total choice →
     in_numbers (with_size (sizes.Endplate f) plate) ≡ with_plate (Endplate f) choice
 endplate_with f (Some plate) e = rw e
 endplate_with f None e = rw e
 
 pub blind_flange_with :
-    (f : BlindFlangeFigures) (choice : Option ℕ) {plate : Result ℕ Refusal} →
+    (f : BlindFlangeFigures) (choice : Option Plate) {plate : Result Plate Refusal} →
     plate ≡ taken f.total choice →
     in_numbers (with_size (sizes.BlindFlange f) plate) ≡ with_plate (BlindFlange f) choice
 blind_flange_with f (Some plate) e = rw e

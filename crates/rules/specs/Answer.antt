@@ -1,6 +1,7 @@
 -- The answers of the two calculations, and document 01's numbers for each case of an answer.
 use Rattle.std.specs.Prelude.{ℕ, cond, List, [], ◌∷◌, ◌++◌, ◌≡◌, eqb, Option, Some, None, Result, Ok, Err}
 use Rattle.plates.specs.Plates.{smallest_serving}
+use Rattle.plates.specs.declared.Plate.{Plate}
 use Rattle.limits.specs.Cause.{number_of}
 use Rattle.limits.specs.declared.cause.Cause.TheVariants.{NoPlate}
 use Rattle.limits.specs.Causes.{first_cause}
@@ -9,7 +10,8 @@ use Rattle.limits.specs.declared.EndplateSheet.{EndplateSheet}
 use Rattle.limits.specs.declared.BlindFlangeSheet.{BlindFlangeSheet}
 use Rattle.rules.specs.FlangeCauses.{blind_flange_causes}
 use Rattle.rules.specs.Figures.{endplate_figures, blind_flange_figures}
-use Rattle.rules.specs.Sizing.{Sizing, Endplate as Sizing-as-Endplate, BlindFlange as Sizing-as-BlindFlange, Refused as Sizing-as-Refused}
+use Rattle.rules.specs.Sizing.{Sizing, Endplate as Sizing-as-Endplate, BlindFlange as Sizing-as-BlindFlange}
+use Rattle.rules.specs.Sizing.{Refused as Sizing-as-Refused}
 use Rattle.rules.specs.declared.EndplateFigures.{EndplateFigures}
 use Rattle.rules.specs.declared.BlindFlangeFigures.{BlindFlangeFigures}
 use Rattle.rules.specs.declared.Size.{Size}
@@ -19,8 +21,8 @@ use Rattle.rules.specs.declared.Refusal.{Refusal}
 -- ---- an answer: figures and plate, or a cause by its number, with its figure
 
 pub data Answer : Type 0 where
-  Endplate : EndplateFigures → ℕ → Answer
-  BlindFlange : BlindFlangeFigures → ℕ → Answer
+  Endplate : EndplateFigures → Plate → Answer
+  BlindFlange : BlindFlangeFigures → Plate → Answer
   Refused : ℕ → ℕ → Answer
 
 -- what a calculation returns, in document 01's numbers
@@ -30,7 +32,7 @@ in_numbers (Ok (Size-as-BlindFlange f plate)) = BlindFlange f plate
 in_numbers (Err r) = Refused (number_of r.cause) r.figure
 
 -- a plate chosen for a total, or the refusal that none serves
-abbrev pub taken : ℕ → Option ℕ → Result ℕ Refusal
+abbrev pub taken : ℕ → Option Plate → Result Plate Refusal
 taken total (Some plate) = Ok plate
 taken total None = Err record { cause = NoPlate; figure = total }
 
@@ -61,20 +63,20 @@ total_of (Sizing-as-Refused cause) = 0
 -- ---- the answer, with the plate chosen from a list
 
 -- 14: no listed plate serves, with the total as its figure; every earlier cause has the figure 0
-abbrev pub with_plate : Sizing → Option ℕ → Answer
+abbrev pub with_plate : Sizing → Option Plate → Answer
 with_plate (Sizing-as-Endplate f) (Some plate) = Endplate f plate
 with_plate (Sizing-as-Endplate f) None = Refused 14 f.total
 with_plate (Sizing-as-BlindFlange f) (Some plate) = BlindFlange f plate
 with_plate (Sizing-as-BlindFlange f) None = Refused 14 f.total
 with_plate (Sizing-as-Refused cause) choice = Refused cause 0
 
-abbrev pub from_plates : Sizing → List ℕ → Answer
+abbrev pub from_plates : Sizing → List Plate → Answer
 from_plates sizing plates = with_plate sizing (smallest_serving (total_of sizing) plates)
 
-unfoldable pub endplate_answer : EndplateSheet → List ℕ → Answer
+unfoldable pub endplate_answer : EndplateSheet → List Plate → Answer
 endplate_answer s plates = from_plates (endplate_sizing s) plates
 
-unfoldable pub blind_flange_answer : BlindFlangeSheet → List ℕ → Answer
+unfoldable pub blind_flange_answer : BlindFlangeSheet → List Plate → Answer
 blind_flange_answer s plates = from_plates (blind_flange_sizing s) plates
 
 -- an answer, chosen from a list, as it is where no plate is listed: what is accepted is refused with 14 and its total; what
@@ -121,8 +123,8 @@ blind_flange_list f =
     ∷ f.total
     ∷ []
 
--- the report's figures, in report order; the plate is the last
+-- the report's figures, in report order, the plate last: reports and C's figures give its thickness alone
 abbrev pub report_of : Answer → List ℕ
-report_of (Endplate f plate) = endplate_list f ++ plate ∷ []
-report_of (BlindFlange f plate) = blind_flange_list f ++ plate ∷ []
+report_of (Endplate f plate) = endplate_list f ++ plate.thickness ∷ []
+report_of (BlindFlange f plate) = blind_flange_list f ++ plate.thickness ∷ []
 report_of (Refused cause figure) = []

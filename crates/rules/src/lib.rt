@@ -18,7 +18,7 @@ mod loads;
 mod sizing;
 mod thickness;
 
-use plates::Plate;
+use plates::{Entry, Plate};
 use sizing::{blind_flange_sizing, chosen, endplate_sizing};
 
 // The figures of an endplate's report but for the plate.
@@ -57,22 +57,22 @@ pub struct BlindFlangeFigures {
     pub total: u64,
 }
 
-// A part sized: the figures of its report, and the plate chosen. Side by side, since a list is made of the figures and the plate
-// comes last.
+// A part sized: the figures of its report, and the plate chosen, with its minus. Side by side, since a list is made of the
+// figures and the plate's thickness comes last.
 #[derive(Clone, Copy)]
 pub enum Size {
     Endplate {
         figures: EndplateFigures,
-        plate: u32,
+        plate: Plate,
     },
     BlindFlange {
         figures: BlindFlangeFigures,
-        plate: u32,
+        plate: Plate,
     },
 }
 
-// The first cause to refuse a part, and the figure returned with it: the line of 1, the total of 14, else 0. Document 01 gives
-// every refusal these two numbers.
+// The first cause to refuse a part, and the figure returned with it: the line of 1, the total of 14, else 0. Document 01
+// gives every refusal these two numbers.
 #[derive(Clone, Copy, Debug, PartialEq, Eq)]
 pub struct Refusal {
     pub cause: Cause,
@@ -90,13 +90,15 @@ impl From<Cause> for Refusal {
 // What a calculation answers.
 pub type Answer = Result<Size, Refusal>;
 
-// The size of an endplate from a list of plates, or the first cause to refuse it. A call for each part, not one over a trait:
-// each promises numbers and inequalities of its own.
-pub fn endplate<P: Plate>(s: EndplateSheet, plates: &[P]) -> Answer
-    ensures value { in_numbers result ≡ endplate_answer s (map P.thickness_of plates.now) }
-    ensures numbers { let ps = map P.thickness_of plates.now in
+// The size of an endplate from a list of plates, or the first cause to refuse it. A call for each part, not one over a
+// trait: each promises numbers and inequalities of its own.
+pub fn endplate<E: Entry>(s: EndplateSheet, plates: &[E]) -> Answer
+    ensures value { in_numbers result ≡ endplate_answer s (map E.plate_of plates.now) }
+    ensures numbers { let ps = map E.plate_of plates.now in
         let answer = in_numbers result in
-        (cause_of answer ≡ endplate_cause s ps) × (figure_of answer ≡ endplate_figure s ps) × (report_of answer ≡ endplate_report s ps) }
+        (cause_of answer ≡ endplate_cause s ps)
+        × (figure_of answer ≡ endplate_figure s ps)
+        × (report_of answer ≡ endplate_report s ps) }
     ensures exact { EndplateExact s (in_numbers result) }
 {
     let figures = endplate_sizing(s)?;
@@ -105,9 +107,9 @@ pub fn endplate<P: Plate>(s: EndplateSheet, plates: &[P]) -> Answer
 }
 
 // The size of a blind flange from a list of plates, or the first cause to refuse it.
-pub fn blind_flange<P: Plate>(s: BlindFlangeSheet, plates: &[P]) -> Answer
-    ensures value { in_numbers result ≡ blind_flange_answer s (map P.thickness_of plates.now) }
-    ensures numbers { let ps = map P.thickness_of plates.now in
+pub fn blind_flange<E: Entry>(s: BlindFlangeSheet, plates: &[E]) -> Answer
+    ensures value { in_numbers result ≡ blind_flange_answer s (map E.plate_of plates.now) }
+    ensures numbers { let ps = map E.plate_of plates.now in
         let answer = in_numbers result in
         (cause_of answer ≡ blind_flange_cause s ps)
         × (figure_of answer ≡ blind_flange_figure s ps)

@@ -9,7 +9,7 @@ use crate::bolts::{Bolting, bolt_area};
 use crate::figures::{blind_flange_figures, endplate_figures};
 use crate::gasket::gasket_of;
 use crate::{BlindFlangeFigures, BlindFlangeSheet, Cause, EndplateFigures, EndplateSheet, Refusal};
-use plates::{Plate, smallest_serving};
+use plates::{Entry, Plate, smallest_serving};
 
 pub(crate) fn endplate_sizing(s: EndplateSheet) -> Result<EndplateFigures, Cause>
     ensures { endplate_sized result ≡ endplate_sizing s }
@@ -39,9 +39,9 @@ pub(crate) fn blind_flange_sizing(s: BlindFlangeSheet) -> Result<BlindFlangeFigu
     Ok(blind_flange_figures(s, stress, gasket, flange_load))
 }
 
-// The smallest plate of the list that serves the total, or 14 with the total.
-pub(crate) fn chosen<P: Plate>(total: u64, plates: &[P]) -> Result<u32, Refusal>
-    ensures { result ≡ taken total (smallest_serving total (map P.thickness_of plates.now)) }
+// The nominally smallest plate of the list that serves the total, or 14 with the total.
+pub(crate) fn chosen<E: Entry>(total: u64, plates: &[E]) -> Result<Plate, Refusal>
+    ensures { result ≡ taken total (smallest_serving total (map E.plate_of plates.now)) }
 {
     smallest_serving(total, plates).ok_or(Refusal {
         cause: Cause::NoPlate,

@@ -2,6 +2,7 @@
 use Prim.Native.Nat.{ℕ}
 use mathlib.Core.List.{List}
 use mathlib.Core.Path.{refl}
+use Rattle.plates.specs.declared.Plate.{Plate}
 use Rattle.rules.specs.Answer.{Accepted}
 use Rattle.rules.specs.Exact.{EndplateSized, BlindFlangeSized}
 use Rattle.limits.specs.declared.EndplateSheet.{EndplateSheet}
@@ -13,13 +14,13 @@ use Rattle.report.specs.Laws.ReadBack.{report_shows}
 use Rattle.sheet.specs.Sheet.{Sheet, malformed, endplate, blind_flange}
 use Rattle.sheet.specs.Exact.{ReportExact, AnswerExact}
 
-endplate_shows : (s : EndplateSheet) (plates : List ℕ) (a : Answer) → EndplateSized s a
+endplate_shows : (s : EndplateSheet) (plates : List Plate) (a : Answer) → EndplateSized s a
     → ReportExact (endplate s plates) (report_text a)
 endplate_shows s plates (Endplate f plate) e = (f.thickness, report_shows "need" (Endplate f plate) refl, e)
 endplate_shows s plates (BlindFlange f plate) e = absurd e
 endplate_shows s plates (Refused cause figure) e = absurd e
 
-flange_shows : (s : BlindFlangeSheet) (plates : List ℕ) (a : Answer) → BlindFlangeSized s a
+flange_shows : (s : BlindFlangeSheet) (plates : List Plate) (a : Answer) → BlindFlangeSized s a
     → ReportExact (blind_flange s plates) (report_text a)
 flange_shows s plates (Endplate f plate) e = absurd e
 flange_shows s plates (BlindFlange f plate) e = (

@@ -1,5 +1,6 @@
 -- What a sheet says: the numbers of an endplate or of a blind flange, with the plates; and its answer.
 use Rattle.std.specs.Prelude.{ℕ, Bool, true, false, cond, ◌&&◌, List, [], Option, Some, None}
+use Rattle.plates.specs.declared.Plate.{Plate}
 use Rattle.rules.specs.Answer.{endplate_answer, blind_flange_answer}
 use Rattle.rules.specs.Numbers.{endplate_cause, endplate_figure, endplate_report}
 use Rattle.rules.specs.Numbers.{blind_flange_cause, blind_flange_figure, blind_flange_report}
@@ -17,8 +18,8 @@ use Rattle.lines.specs.Lines.{Lines, fault, given, lines_of}
 pub data Sheet : Type 0 where
   -- the number of the first line at fault
   malformed : ℕ → Sheet
-  endplate : EndplateSheet → List ℕ → Sheet
-  blind_flange : BlindFlangeSheet → List ℕ → Sheet
+  endplate : EndplateSheet → List Plate → Sheet
+  blind_flange : BlindFlangeSheet → List Plate → Sheet
 
 -- the numbers of an endplate's lines, each by its key
 abbrev pub endplate_sheet : List ℕ → EndplateSheet

@@ -39,8 +39,8 @@ impl Outcome {
     }
 }
 
-// Answers the sheet in `text`, and writes its report to the front of `out`. Its promises stand again at `write_report` and at C's
-// call, each of which is called by itself.
+// Answers the sheet in `text`, and writes its report to the front of `out`. Its promises stand again at `write_report` and at
+// C's call, each of which is called by itself.
 pub fn answer(text: &[u8], out: &mut [u8]) -> Outcome
     ensures value { in_numbers result ≡ outcome_of text.now out.old }
     ensures numbers { let t = text.now in

@@ -19,3 +19,7 @@ equals = 61
 -- ,
 abbrev pub comma : ℕ
 comma = 44
+
+-- :
+abbrev pub colon : ℕ
+colon = 58

@@ -2,3 +2,4 @@
 pub mod Begins
 pub mod Joined
 pub mod Padded
+pub mod Entry

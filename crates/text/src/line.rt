@@ -9,7 +9,7 @@ const LINE_FEED: u8 = b'\n';
 const EQUALS: u8 = b'=';
 
 // Where the first byte b of t is.
-fn first(t: &[u8], b: u8) -> Option<usize>
+pub(crate) fn first(t: &[u8], b: u8) -> Option<usize>
     ensures { result ≡ first b t.now }
 {
     t.iter().position(|&x| x == b)

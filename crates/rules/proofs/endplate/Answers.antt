@@ -1,6 +1,7 @@
 -- `endplate` meets its contract. Assumes nothing.
-use Rattle.std.proofs.Common.{ap, ◌∙◌, ℕ, List}
+use Rattle.std.proofs.Common.{ap, ◌∙◌, List}
 use mathlib.Core.List.{map}
+use Rattle.plates.specs.declared.Plate.{Plate}
 use Rattle.rules.specs.Answer.{Answer, from_plates}
 use Rattle.rules.specs.Sizing.{Sizing}
 use Rattle.std.proofs.lemmas.Result.{err_from_is_err_and}
@@ -9,13 +10,13 @@ use Rattle.rules.proofs.AnswersExact.{endplate_promised}
 use Rattle.rules.proofs.endplate.Goals as goal
 
 -- what a size answers with a list
-abbrev with : List ℕ → Sizing → Answer
+abbrev with : List Plate → Sizing → Answer
 with plates size = from_plates size plates
 
 pub returns-in_err-figures : goal.returns-in_err-figures
 returns-in_err-figures g c =
     let out = err_from_is_err_and c.from_residual.result c.from_residual.ensures.1 in
-    let plates = map g.P.Plate.thickness_of c.args.plates.now in
+    let plates = map g.E.Entry.plate_of c.args.plates.now in
     let p =
     endplate_promised
     c.args.s
@@ -25,8 +26,9 @@ returns-in_err-figures g c =
 
 pub returns-in_err-plate : goal.returns-in_err-plate
 returns-in_err-plate g c =
-    let plates = map g.P.Plate.thickness_of c.args.plates.now in
-    let answered = endplate_with c.in_ok-figures.figures _ c.in_err-plate.ensures ∙ ap (with plates) c.in_ok-figures.ensures in
+    let plates = map g.E.Entry.plate_of c.args.plates.now in
+    let answered =
+    endplate_with c.in_ok-figures.figures _ c.in_err-plate.ensures ∙ ap (with plates) c.in_ok-figures.ensures in
     let r = c.from_residual-in_err-plate in
     let out = err_from_is_err_and r.result r.ensures.1 in
     let p = endplate_promised c.args.s plates (rw (out.1, out.2) answered) in
@@ -34,7 +36,8 @@ returns-in_err-plate g c =
 
 pub returns : goal.returns
 returns g c =
-    let plates = map g.P.Plate.thickness_of c.args.plates.now in
-    let answered = endplate_with c.in_ok-figures.figures _ c.in_ok-plate.ensures ∙ ap (with plates) c.in_ok-figures.ensures in
+    let plates = map g.E.Entry.plate_of c.args.plates.now in
+    let answered =
+    endplate_with c.in_ok-figures.figures _ c.in_ok-plate.ensures ∙ ap (with plates) c.in_ok-figures.ensures in
     let p = endplate_promised c.args.s plates answered in
     record { value = p.0; numbers = p.1.0; exact = p.1.1 }

@@ -1,13 +1,13 @@
 use Rattle.std.proofs.Common.{drop, length, ◌-◌, ◌≡◌, ◌≤◌}
 use Rattle.std.specs.List.{slice_split}
-use Rattle.text.specs.Plates.{most_plates, numbers_listed}
-use Rattle.text.proofs.Listed.{is_comma, prepend_list, numbers_in}
-use Rattle.text.proofs.plate_list.listed.Given as goal
+use Rattle.text.specs.Plates.{most_plates, plates_listed}
+use Rattle.text.proofs.Listed.{is_comma, prepend_list, entries_in}
+use Rattle.text.proofs.plate_list.read_list.Given as goal
 
 -- what is read so far and the rest of the parts give the whole list
 abbrev pub invariant-loop-part : goal.invariant-loop-part
 invariant-loop-part l =
     let n = length l.yielded in
-    (numbers_listed most_plates l.v ≡ prepend_list l.plates.items (numbers_in (most_plates - n) (drop n (slice_split is_comma l.v))))
+    (plates_listed most_plates l.v ≡ prepend_list l.plates.items (entries_in (most_plates - n) (drop n (slice_split is_comma l.v))))
     × (length l.plates.items ≡ n)
     × (n ≤ most_plates)

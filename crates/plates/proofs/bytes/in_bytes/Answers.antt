@@ -1,9 +1,0 @@
--- `bytes::in_bytes` meets its contract. Assumes nothing.
-use Rattle.std.proofs.Common.{arith, length, ◌/◌}
-use Rattle.plates.proofs.InBytes.{chunk_numbers}
-use Rattle.plates.proofs.bytes.in_bytes.Goals as goal
-
-pub returns : goal.returns
-returns c =
-    let bytes = c.args.bytes.now in
-    rw c.as_chunks.ensures.front (chunk_numbers (length bytes / 4) bytes (omega arith) (omega arith))
