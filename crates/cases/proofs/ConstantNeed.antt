@@ -2,7 +2,7 @@
 use Rattle.std.proofs.Common.{◌≡◌, ℕ, ◌*◌, ◌≤◌, List, [], ◌∷◌, length, sym, refl, ◌∙◌, arith}
 use Rattle.text.specs.Index.{index_of, index_after}
 use Rattle.tables.specs.DesignStress.{column, design_stress_of}
-use Rattle.plates.specs.Plates.{thinner_by}
+use Rattle.plates.specs.Plates.{toleranced}
 use Rattle.root.specs.Least.{◌≥◌, Least, least_most}
 use Rattle.root.proofs.Laws.{square_le}
 use Rattle.limits.specs.Stress.{endplate_stress}
@@ -35,7 +35,7 @@ end_sheet pressure = record {
 }
 
 abbrev Says : List ℕ → ℕ → Type 0
-Says text P = sheet_of text ≡ endplate (end_sheet P) (thinner_by 0 3000 ∷ [])
+Says text P = sheet_of text ≡ endplate (end_sheet P) (toleranced 0 3000 ∷ [])
 
 says : Says (end_at "pressure=1080") 1080 × Says (end_at "pressure=1081") 1081
 unfolding end_sheet index_of index_after before after value_of number_of entry_of plates_listed plates_of line_of plates_line lines_of part_of sheet_of

@@ -14,7 +14,7 @@ use Rattle.lines.specs.Fields.{Field, field_of, fields_of}
 use Rattle.lines.specs.Lines.{Lines, fault, given, ahead, last_line}
 use Rattle.sheet.specs.Sheet.{Sheet, malformed, endplate, blind_flange, read, is_part, sheet_of, answered, answer_of}
 use Rattle.sheet.specs.Outcome.{report_for}
-use Rattle.cases.proofs.OtherPlates.{Reading, sheet_by_part, plates_by, lines_by, part_by, sheet_by, past, after_fields, read_alike}
+use Rattle.cases.proofs.OtherReading.{Reading, sheet_by_part, plates_by, lines_by, part_by, sheet_by, past, after_fields, read_alike}
 
 -- nothing was an empty list, and none was no list
 abbrev pub former_plates : Reading
@@ -34,18 +34,7 @@ Neither t =
 
 pub read_as_before : (text : List ℕ) → Neither (after_fields text) → sheet_of text ≡ former_sheet_of text
 unfolding plates_of
-read_as_before text n = read_alike former_plates text (by_line (is_line (ascii "plates") t) refl)
-  where
-    t : List ℕ
-    t = after_fields text
-
-    by_line :
-        (b : Bool) →
-        is_line (ascii "plates") t ≡ b →
-        let v = value_of (ascii "plates") t in
-        cond b (plates_of v) None ≡ cond b (former_plates v) None
-    by_line true e = rw ((n e).0, (n e).1)
-    by_line false e = refl
+read_as_before text n = read_alike former_plates text (λ e. rw ((n e).0, (n e).1))
 
 -- ---- a sheet with a list of one plate or more keeps its report
 

@@ -5,7 +5,7 @@ use mathlib.Core.Bool.{or-true}
 use Rattle.tables.specs.DesignStress.{column, design_stress_of}
 use Rattle.root.specs.Root.{ceil_div, whole_root_by, least_root, least_root_over}
 use Rattle.plates.specs.declared.Plate.{Plate}
-use Rattle.plates.specs.Plates.{smallest_serving, thinner_by}
+use Rattle.plates.specs.Plates.{smallest_serving, toleranced}
 use Rattle.limits.specs.Causes.{any, Causes, tests_of, first_of, first_cause}
 use Rattle.limits.specs.Stress.{endplate_stress}
 use Rattle.limits.specs.Limits.{endplate_causes, flange_limits}
@@ -151,8 +151,8 @@ storage_end = record {
 }
 
 newly_answered :
-    (former_answer (endplate storage_end (thinner_by 0 5000 ∷ [])) ≡ Refused 6 0)
-    × (report_of (endplate_answer storage_end (thinner_by 0 5000 ∷ [])) ≡ 108 ∷ 4565 ∷ 4665 ∷ 5000 ∷ [])
+    (former_answer (endplate storage_end (toleranced 0 5000 ∷ [])) ≡ Refused 6 0)
+    × (report_of (endplate_answer storage_end (toleranced 0 5000 ∷ [])) ≡ 108 ∷ 4565 ∷ 4665 ∷ 5000 ∷ [])
 unfolding storage_end column design_stress_of ceil_div whole_root_by least_root least_root_over endplate_stress endplate_thickness
     endplate_figures endplate_causes first_of endplate_sizing smallest_serving endplate_answer
 newly_answered = (refl, refl)

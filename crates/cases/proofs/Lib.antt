@@ -10,6 +10,7 @@ mod OldBlindSheets
 mod RenewedSheets
 mod WholeNewtons
 mod LoadsInTenths
+mod OtherReading
 mod OtherPlates
 mod FormerPlates
 mod UsualStock

@@ -5,7 +5,7 @@ use borrow.Author.Tests.{eqb-false}
 use Rattle.tables.specs.DesignStress.{column, design_stress_of}
 use Rattle.root.specs.Root.{ceil_div, whole_root_by, least_root, least_root_over}
 use Rattle.plates.specs.declared.Plate.{Plate}
-use Rattle.plates.specs.Plates.{smallest_serving, thinner_by, Serves, Smallest, Chosen}
+use Rattle.plates.specs.Plates.{smallest_serving, toleranced, Serves, Smallest, Chosen}
 use Rattle.plates.proofs.Laws.{smallest, listed}
 use Rattle.std.specs.Prelude.{Option, Some, None}
 use Rattle.limits.specs.Causes.{of_numbers, of_bolting, of_loads, of_plates, first_of, first_cause}
@@ -236,8 +236,8 @@ light_cover : BlindFlangeSheet
 light_cover = blind_flange_call 1 150 200 100 3150 100 0 0 50 14 3450 16 1441 4 54 27
 
 newly_carried :
-    (former_answer light_cover (thinner_by 0 1000 ∷ []) ≡ Refused 13 0)
-    × (report_of (blind_flange_answer light_cover (thinner_by 0 1000 ∷ []))
+    (former_answer light_cover (toleranced 0 1000 ∷ []) ≡ Refused 13 0)
+    × (report_of (blind_flange_answer light_cover (toleranced 0 1000 ∷ []))
     ≡ 108 ∷ 108 ∷ 3050 ∷ 500 ∷ 155627 ∷ 67039 ∷ 311255 ∷ 835 ∷ 601 ∷ 935 ∷ 1000 ∷ [])
 unfolding light_cover column design_stress_of ceil_div whole_root_by least_root least_root_over wide_width effective_width_of
     reaction_diameter_of exact_operating_load exact_seating_load operating_load_of seating_load_of flange_load_of gasket_of bolts_sufficient
@@ -250,12 +250,12 @@ small_cover : BlindFlangeSheet
 small_cover = blind_flange_call 1 100 20 0 1000 100 0 0 50 0 1300 12 763 4 10 10
 
 thinner :
-    (report_of (former_answer small_cover (thinner_by 0 251 ∷ thinner_by 0 300 ∷ []))
+    (report_of (former_answer small_cover (toleranced 0 251 ∷ toleranced 0 300 ∷ []))
     ≡ 108 ∷ 108 ∷ 900 ∷ 500 ∷ 156 ∷ 0 ∷ 1604 ∷ 104 ∷ 252 ∷ 252 ∷ 300 ∷ [])
-    × (report_of (blind_flange_answer small_cover (thinner_by 0 251 ∷ thinner_by 0 300 ∷ []))
+    × (report_of (blind_flange_answer small_cover (toleranced 0 251 ∷ toleranced 0 300 ∷ []))
     ≡ 108 ∷ 108 ∷ 900 ∷ 500 ∷ 1555 ∷ 0 ∷ 16038 ∷ 103 ∷ 251 ∷ 251 ∷ 251 ∷ [])
-    × (former_answer small_cover (thinner_by 0 251 ∷ []) ≡ Refused 14 252)
-    × (cause_of (blind_flange_answer small_cover (thinner_by 0 251 ∷ [])) ≡ 0)
+    × (former_answer small_cover (toleranced 0 251 ∷ []) ≡ Refused 14 252)
+    × (cause_of (blind_flange_answer small_cover (toleranced 0 251 ∷ [])) ≡ 0)
 unfolding small_cover column design_stress_of ceil_div whole_root_by least_root least_root_over wide_width effective_width_of
     reaction_diameter_of exact_operating_load exact_seating_load operating_load_of seating_load_of flange_load_of gasket_of bolts_sufficient
     flange_thickness edge_under blind_flange_figures first_of flange_limits bolts_causes blind_flange_causes blind_flange_sizing

@@ -6,7 +6,7 @@ use Rattle.text.specs.Index.{index_of, index_after}
 use Rattle.tables.specs.DesignStress.{column, design_stress_of}
 use Rattle.root.specs.Root.{ceil_div, whole_root_by, least_root, least_root_over}
 use Rattle.plates.specs.declared.Plate.{Plate}
-use Rattle.plates.specs.Plates.{smallest_serving, thinner_by}
+use Rattle.plates.specs.Plates.{smallest_serving, toleranced}
 use Rattle.limits.specs.Causes.{first_of}
 use Rattle.limits.specs.Limits.{endplate_causes}
 use Rattle.limits.specs.Stress.{endplate_stress}
@@ -30,17 +30,17 @@ use Rattle.cases.proofs.UsualStock.{end_of}
 abbrev choices : List (ℕ × (List Plate × Option Plate))
 choices =
     -- what is left at the total, and below it
-    (2470, (thinner_by 30 2500 ∷ [], Some (thinner_by 30 2500)))
-    ∷ (2471, (thinner_by 30 2500 ∷ [], None))
+    (2470, (toleranced 30 2500 ∷ [], Some (toleranced 30 2500)))
+    ∷ (2471, (toleranced 30 2500 ∷ [], None))
     -- nothing left, and less than nothing
-    ∷ (0, (thinner_by 300 300 ∷ [], Some (thinner_by 300 300)))
-    ∷ (0, (thinner_by 301 300 ∷ [], None))
+    ∷ (0, (toleranced 300 300 ∷ [], Some (toleranced 300 300)))
+    ∷ (0, (toleranced 301 300 ∷ [], None))
     -- the smallest by its name, not by what is left of it
-    ∷ (2400, (thinner_by 0 2600 ∷ thinner_by 10 2500 ∷ thinner_by 20 2700 ∷ [], Some (thinner_by 10 2500)))
+    ∷ (2400, (toleranced 0 2600 ∷ toleranced 10 2500 ∷ toleranced 20 2700 ∷ [], Some (toleranced 10 2500)))
     -- the first of equals, in both orders; the first that serves
-    ∷ (2470, (thinner_by 20 2500 ∷ thinner_by 10 2500 ∷ [], Some (thinner_by 20 2500)))
-    ∷ (2470, (thinner_by 10 2500 ∷ thinner_by 20 2500 ∷ [], Some (thinner_by 10 2500)))
-    ∷ (2490, (thinner_by 20 2500 ∷ thinner_by 10 2500 ∷ [], Some (thinner_by 10 2500)))
+    ∷ (2470, (toleranced 20 2500 ∷ toleranced 10 2500 ∷ [], Some (toleranced 20 2500)))
+    ∷ (2470, (toleranced 10 2500 ∷ toleranced 20 2500 ∷ [], Some (toleranced 10 2500)))
+    ∷ (2490, (toleranced 20 2500 ∷ toleranced 10 2500 ∷ [], Some (toleranced 10 2500)))
     ∷ []
 
 chosen : map (λ row. smallest_serving row.0 row.1.0) choices ≡ map (λ row. row.1.1) choices

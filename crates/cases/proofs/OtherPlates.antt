@@ -1,102 +1,18 @@
--- Sheets that differ in their plates alone: another reading of the plates line, or another plates line. Assumes nothing.
-use Rattle.std.proofs.Common.{◌≡◌, ℕ, ◌+◌, Bool, true, false, not, cond, ◌&&◌, T, eqb, List, [], ◌∷◌, ◌++◌, length, sym, refl, ap, ◌∙◌, arith, length-append, ne_eqb, eqb-true}
+-- Sheets that differ in their plates alone: the same sheet with another plates line. Assumes nothing.
+use Rattle.std.proofs.Common.{◌≡◌, ℕ, ◌+◌, Bool, true, false, ◌&&◌, T, eqb, List, [], ◌∷◌, ◌++◌, length, refl, ap, ◌∙◌, arith, length-append, ne_eqb, eqb-true}
 use lib.Ieee.Bits.{is_true}
 use Rattle.text.specs.Index.{index_of, index_after}
 use Rattle.tables.specs.TableRule.{every, both}
 use Rattle.plates.specs.declared.Plate.{Plate}
 use Rattle.text.specs.Ascii.{ascii, line_feed}
-use Rattle.text.specs.Line.{is_line, value_of, after}
-use Rattle.text.specs.Plates.{plates_of}
 use Rattle.text.specs.Laws.Joined.{Lacks}
 use Rattle.std.specs.Prelude.{Option, Some, None}
 use Rattle.lines.specs.Fields.{Field, line_of, field_of, fields_of}
-use Rattle.lines.specs.Lines.{Lines, fault, given, ahead, plates_line, last_line, lines_of}
-use Rattle.sheet.specs.Sheet.{Sheet, malformed, endplate, blind_flange, read, is_part, part_of, sheet_of}
+use Rattle.lines.specs.Lines.{Lines, fault, given, ahead, last_line}
+use Rattle.sheet.specs.Sheet.{Sheet, malformed, endplate, blind_flange, read, is_part}
 use Rattle.cases.proofs.LineByItself.{without_lf, differs, begins_other, ended, after_line, value_line}
 use Rattle.cases.proofs.LineByItself.{is_same, value_same, line_same, part_same}
-
--- ---- another reading
-
--- how the value of a plates line is read
-abbrev pub Reading : Type 0
-Reading = List ℕ → Option (List Plate)
-
--- part=end, part=blind, or neither
-abbrev pub sheet_by_part : Bool → Bool → Sheet → Sheet → Sheet
-sheet_by_part isEnd isBlind endplateOf blindFlangeOf = cond isEnd endplateOf (cond isBlind blindFlangeOf (malformed 1))
-
-module _ (reading : Reading) where
-  abbrev pub plates_by : List ℕ → Option (List Plate)
-  plates_by t = let key = ascii "plates" in cond (is_line key t) (reading (value_of key t)) None
-
-  abbrev pub lines_by : ℕ → List Field → List ℕ → Lines
-  lines_by line [] t = last_line line (plates_by t) (after line_feed t)
-  lines_by line (field ∷ fields) t =
-      let rest = lines_by (line + 1) fields (after line_feed t) in
-      ahead line (field_of field t) rest
-
-  abbrev pub part_by : Bool → List ℕ → Sheet
-  part_by blind text = read blind (lines_by 2 (fields_of blind) (after line_feed text))
-
-  abbrev pub sheet_by : List ℕ → Sheet
-  sheet_by text = sheet_by_part (is_part (ascii "end") text) (is_part (ascii "blind") text) (part_by false text) (part_by true text)
-
--- the present one
-present_lines : (line : ℕ) (fs : List Field) (t : List ℕ) → lines_by plates_of line fs t ≡ lines_of line fs t
-unfolding lines_of plates_line
-present_lines line [] t = refl
-present_lines line (f ∷ fs) t = ap (ahead line (field_of f t)) (present_lines (line + 1) fs (after line_feed t))
-
-pub present_part : (blind : Bool) (text : List ℕ) → part_by plates_of blind text ≡ part_of blind text
-unfolding part_of
-present_part blind text = ap (read blind) (present_lines 2 (fields_of blind) (after line_feed text))
-
-pub present : (text : List ℕ) → sheet_by plates_of text ≡ sheet_of text
-unfolding sheet_of
-present text = rw (present_part false text, present_part true text)
-
--- what stands after the lines of the fields
-abbrev pub past : List Field → List ℕ → List ℕ
-past [] t = t
-past (field ∷ fields) t = past fields (after line_feed t)
-
--- readings that agree on the plates line of a text agree on its lines, those at fault too
-agree_lines :
-    (p q : Reading) (line : ℕ) (fs : List Field) (t : List ℕ) →
-    plates_by p (past fs t) ≡ plates_by q (past fs t) →
-    lines_by p line fs t ≡ lines_by q line fs t
-agree_lines p q line [] t e = ap (λ (o : Option (List Plate)). last_line line o (after line_feed t)) e
-agree_lines p q line (f ∷ fs) t e = ap (ahead line (field_of f t)) (agree_lines p q (line + 1) fs (after line_feed t) e)
-
-agree :
-    (p q : Reading) (blind : Bool) (text : List ℕ) →
-    let t = past (fields_of blind) (after line_feed text) in
-    plates_by p t ≡ plates_by q t →
-    part_by p blind text ≡ part_by q blind text
-agree p q blind text e = ap (read blind) (agree_lines p q 2 (fields_of blind) (after line_feed text) e)
-
--- where the plates line of a sheet must be
-abbrev pub after_fields : List ℕ → List ℕ
-after_fields text = past (fields_of (not (is_part (ascii "end") text))) (after line_feed text)
-
--- a reading that agrees there with the present one reads the same sheet
-pub read_alike :
-    (p : Reading) (text : List ℕ) →
-    plates_by plates_of (after_fields text) ≡ plates_by p (after_fields text) →
-    sheet_of text ≡ sheet_by p text
-read_alike p text e = sym (present text) ∙ by_part (is_part (ascii "end") text) (is_part (ascii "blind") text) e
-  where
-    by_part :
-        (end blind : Bool) →
-        let t = past (fields_of (not end)) (after line_feed text) in
-        plates_by plates_of t ≡ plates_by p t →
-        sheet_by_part end blind (part_by plates_of false text) (part_by plates_of true text)
-        ≡ sheet_by_part end blind (part_by p false text) (part_by p true text)
-    by_part true blind e = agree plates_of p false text e
-    by_part false true e = agree plates_of p true text e
-    by_part false false e = refl
-
--- ---- another plates line
+use Rattle.cases.proofs.OtherReading.{Reading, sheet_by_part, plates_by, lines_by, sheet_by}
 
 -- a text of lines, the last of them plates= and this value
 abbrev pub sheet_text : List (List ℕ) → List ℕ → List ℕ

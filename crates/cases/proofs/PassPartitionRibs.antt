@@ -4,7 +4,7 @@ use Rattle.std.proofs.Common.{◌≡◌, ℕ, ◌+◌, ◌*◌, List, [], ◌∷
 use Rattle.tables.specs.DesignStress.{column, design_stress_of}
 use Rattle.root.specs.Root.{ceil_div, whole_root_by, least_root, least_root_over}
 use Rattle.plates.specs.declared.Plate.{Plate}
-use Rattle.plates.specs.Plates.{smallest_serving, thinner_by}
+use Rattle.plates.specs.Plates.{smallest_serving, toleranced}
 use Rattle.limits.specs.Causes.{Causes, first_of, first_cause}
 use Rattle.limits.specs.Limits.{endplate_causes, flange_limits}
 use Rattle.limits.specs.Laws.{number_idle}
@@ -140,7 +140,7 @@ printed : BlindFlangeSheet
 printed = blind_flange_call 1 150 1000 100 5000 100 0 0 200 110 5600 20 2250 16 100 100
 
 abbrev with_rib : ℕ → ℕ → Answer
-with_rib rib width = blind_flange_answer (ribbed rib width printed) (map (thinner_by 0) (2500 ∷ 3200 ∷ 4000 ∷ []))
+with_rib rib width = blind_flange_answer (ribbed rib width printed) (map (toleranced 0) (2500 ∷ 3200 ∷ 4000 ∷ []))
 
 -- its b is 5 mm: Wm1 grows by 2·5·490·2·1 = 9800.0 N from 219250.5 N, Wm2 by 5·490·11 = 26950.0 N from
 -- 84623.0 N

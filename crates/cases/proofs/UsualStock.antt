@@ -7,7 +7,7 @@ use Rattle.tables.specs.DesignStress.{column, design_stress_of}
 use Rattle.root.specs.Root.{ceil_div, whole_root_by, least_root, least_root_over}
 use Rattle.plates.specs.declared.Plate.{Plate}
 use Rattle.plates.specs.Entries.{plates_in}
-use Rattle.plates.specs.Plates.{smallest_serving, standard_plates, thinner_by}
+use Rattle.plates.specs.Plates.{smallest_serving, standard_plates, toleranced}
 use Rattle.limits.specs.Causes.{first_of}
 use Rattle.limits.specs.Limits.{endplate_causes}
 use Rattle.limits.specs.Stress.{endplate_stress}
@@ -28,7 +28,8 @@ use Rattle.lines.specs.Lines.{plates_line, lines_of}
 use Rattle.sheet.specs.Sheet.{Sheet, malformed, endplate, blind_flange, part_of, sheet_of, answered, answer_of}
 use Rattle.sheet.specs.Outcome.{report_for}
 use Rattle.cases.proofs.Starred.{text_of}
-use Rattle.cases.proofs.OtherPlates.{present, sheet_text, AreLines, with_plates, other_plates}
+use Rattle.cases.proofs.OtherReading.{present}
+use Rattle.cases.proofs.OtherPlates.{sheet_text, AreLines, with_plates, other_plates}
 use Rattle.cases.proofs.FormerPlates.{former_plates, former_sheet_of, Lists, kept}
 
 -- ---- plates= is the thirteen entries written out
@@ -107,19 +108,19 @@ module _ (us : List (List ℕ)) (lines : AreLines us) where
   as_it_was r =
       let one = ascii "1" in
       let former = former_sheet_of (sheet_text us []) in
-      let with-one = other_plates former_plates one [] (thinner_by 0 1 ∷ []) [] refl refl refl refl us lines in
+      let with-one = other_plates former_plates one [] (toleranced 0 1 ∷ []) [] refl refl refl refl us lines in
       let same-one = kept (sheet_text us one) (rw with-one (lists former r)) ∙ with-one in
-      other_line us lines (ascii "none") one [] (thinner_by 0 1 ∷ []) refl refl refl refl
+      other_line us lines (ascii "none") one [] (toleranced 0 1 ∷ []) refl refl refl refl
       ∙ ap (with_plates []) same-one
       ∙ again former
       ∙ sym (other_plates former_plates [] [] [] [] refl refl refl refl us lines)
     where
-      lists : (s : Sheet) → IsRead s → Lists (with_plates (thinner_by 0 1 ∷ []) s)
+      lists : (s : Sheet) → IsRead s → Lists (with_plates (toleranced 0 1 ∷ []) s)
       lists (malformed line) r = absurd r
       lists (endplate s plates) r = tt
       lists (blind_flange s plates) r = tt
 
-      again : (s : Sheet) → with_plates [] (with_plates (thinner_by 0 1 ∷ []) s) ≡ with_plates [] s
+      again : (s : Sheet) → with_plates [] (with_plates (toleranced 0 1 ∷ []) s) ≡ with_plates [] s
       again (malformed line) = refl
       again (endplate s plates) = refl
       again (blind_flange s plates) = refl

@@ -14,8 +14,8 @@ use Rattle.plates.specs.Plates.{serves, any_serves, smaller, better, smallest_se
 use Rattle.plates.specs.Plates.{Listed, Serves, Smallest, Chosen}
 
 -- of two plates the first, unless the second is nominally smaller
-abbrev pub thinner : Plate → Plate → Plate
-thinner = lower (λ plate. plate.thickness)
+abbrev pub smaller_of_two : Plate → Plate → Plate
+smaller_of_two = lower (λ plate. plate.thickness)
 
 module _ (total : ℕ) where
   -- the test is the rule's
@@ -165,11 +165,11 @@ module _ (total : ℕ) where
 
   -- ---- the least of the plates that serve, the first of equals, is the definition's choice
 
-  picks : (ps : List Plate) (p : Plate) → Some (fold thinner p (filter (serves total) ps)) ≡ foldl (better total) (Some p) ps
+  picks : (ps : List Plate) (p : Plate) → Some (fold smaller_of_two p (filter (serves total) ps)) ≡ foldl (better total) (Some p) ps
   picks [] p = refl
   picks (q ∷ ps) p = grind (arith, picks ps)
 
-  pub picked : (plates : List Plate) → reduce thinner (filter (serves total) plates) ≡ smallest_serving total plates
+  pub picked : (plates : List Plate) → reduce smaller_of_two (filter (serves total) plates) ≡ smallest_serving total plates
   unfolding smallest_serving
   picked [] = refl
   picked (q ∷ ps) = grind (arith, picks ps, picked ps)

@@ -35,14 +35,14 @@ abbrev pub is_chosen : Option Plate → Bool
 is_chosen (Some plate) = true
 is_chosen None = false
 
--- a plate by its minus and its thickness: thinner_by 30 300 is 300:30 of a list
-abbrev pub thinner_by : ℕ → ℕ → Plate
-thinner_by under_tolerance thickness = record { thickness = thickness; under_tolerance = under_tolerance }
+-- a plate by its minus and its thickness: toleranced 30 300 is 300:30 of a list
+abbrev pub toleranced : ℕ → ℕ → Plate
+toleranced under_tolerance thickness = record { thickness = thickness; under_tolerance = under_tolerance }
 
 -- the usual stock (document 02, R-8 and R-13): each may be 0.30 mm thinner
 unfoldable pub standard_plates : List Plate
 standard_plates =
-    map (thinner_by 30) (300 ∷ 400 ∷ 500 ∷ 600 ∷ 800 ∷ 1000 ∷ 1200 ∷ 1500 ∷ 2000 ∷ 2500 ∷ 3000 ∷ 4000 ∷ 5000 ∷ [])
+    map (toleranced 30) (300 ∷ 400 ∷ 500 ∷ 600 ∷ 800 ∷ 1000 ∷ 1200 ∷ 1500 ∷ 2000 ∷ 2500 ∷ 3000 ∷ 4000 ∷ 5000 ∷ [])
 
 -- ---- what the plate rule asks of a choice
 

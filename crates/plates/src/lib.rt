@@ -3,7 +3,7 @@
 
 ghost use Rattle.std.specs.Prelude.{◌≡◌};
 ghost use mathlib.Core.List.{map};
-ghost use Rattle.plates.specs.Plates.{serves, smallest_serving, standard_plates, thinner_by, Chosen};
+ghost use Rattle.plates.specs.Plates.{serves, smallest_serving, standard_plates, toleranced, Chosen};
 
 mod entries;
 
@@ -23,9 +23,8 @@ impl Plate {
     fn serves(self, total: u64) -> bool
         ensures { result ≡ serves total self }
     {
-        self.thickness
-            .checked_sub(self.under_tolerance)
-            .is_some_and(|least| total <= u64::from(least))
+        let least = self.thickness.checked_sub(self.under_tolerance);
+        least.is_some_and(|least| total <= u64::from(least))
     }
 }
 
@@ -61,7 +60,7 @@ pub fn smallest_serving<E: Entry>(total: u64, entries: &[E]) -> Option<Plate>
 
 // A plate of the usual stock: it may come 0.30 mm thinner.
 fn standard(thickness: u32) -> Plate
-    ensures { result ≡ thinner_by 30 thickness }
+    ensures { result ≡ toleranced 30 thickness }
 {
     Plate {
         thickness,

@@ -2,7 +2,7 @@
 use Rattle.std.specs.Prelude.{ℕ, ◌+◌, ◌-◌, ◌*◌, Bool, true, false, cond, List, [], ◌∷◌, ◌≡◌, refl, eqb, length, Option, Some, None}
 use Rattle.std.specs.Option.{option_map}
 use Rattle.std.proofs.Common.{arith, take_all, le-ltb}
-use Rattle.plates.specs.Plates.{thinner_by}
+use Rattle.plates.specs.Plates.{toleranced}
 use Rattle.text.specs.Ascii.{colon}
 use Rattle.text.specs.Index.{index_of, index_after}
 use Rattle.text.specs.Line.{before}
@@ -10,12 +10,12 @@ use Rattle.text.specs.Number.{is_digit, digits_after, well_formed, number_of}
 use Rattle.text.specs.Plates.{plate_with, entry_of}
 use Rattle.text.specs.Laws.Joined.{Lacks}
 
-pub entry_alone : (v : List ℕ) → Lacks colon v → entry_of v ≡ option_map (thinner_by 0) (number_of v)
+pub entry_alone : (v : List ℕ) → Lacks colon v → entry_of v ≡ option_map (toleranced 0) (number_of v)
 unfolding entry_of before
 entry_alone v l =
     rw (l, take_all (length v) v (omega arith), le-ltb (length v) (length v) (omega arith)) (by_number (number_of v))
   where
-    by_number : (n : Option ℕ) → plate_with n (Some 0) ≡ option_map (thinner_by 0) n
+    by_number : (n : Option ℕ) → plate_with n (Some 0) ≡ option_map (toleranced 0) n
     by_number (Some n) = refl
     by_number None = refl
 
@@ -45,5 +45,5 @@ number_lacks v x e = by_form (well_formed v) e
     by_form false e = cc
 
 -- so an entry that is a number is looked at once
-pub entry_number : (v : List ℕ) (x : ℕ) → number_of v ≡ Some x → entry_of v ≡ Some (thinner_by 0 x)
+pub entry_number : (v : List ℕ) (x : ℕ) → number_of v ≡ Some x → entry_of v ≡ Some (toleranced 0 x)
 entry_number v x e = rw (entry_alone v (number_lacks v x e), e)
