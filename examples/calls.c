@@ -57,6 +57,19 @@ static unsigned long endplate_total(void)
     return (unsigned long)scantling_endplate(2, 1, 1, 150, 1000, 5000, 100, NULL, 0, SCANTLING_FIGURE);
 }
 
+/* Three sheets in one text: the end, one that stops too soon, and the same end from the usual stock. */
+static const uint8_t book[] =
+    "part=end\nform=c\nmaterial=1\nshell=1\ntemp=150\npressure=1000\ndia=5000\nallow=100\nplates=2500,3200,4000\n"
+    "part=end\nform=c\n"
+    "part=end\nform=c\nmaterial=1\nshell=1\ntemp=150\npressure=1000\ndia=5000\nallow=100\nplates=\n";
+static uint8_t reports[SCANTLING_LONGEST_BATCH];
+
+/* At most so many sheets of the book; their reports are written, whatever the place. */
+static unsigned long batch(uint32_t limit, uint32_t place)
+{
+    return (unsigned long)scantling_batch(book, sizeof book - 1, limit, reports, sizeof reports, place);
+}
+
 int main(void)
 {
     static const uint8_t text[] = "part=end\nform=a\n"; /* a sheet that ends too soon */
@@ -78,6 +91,9 @@ int main(void)
            blind_flange_standard(SCANTLING_BLIND_FLANGE_PLATE));
     printf("endplate without a plate: total %lu\n", endplate_total());
     fwrite(report, 1, length, stdout);
+    printf("book: the first 2 sheets have reports of %lu bytes, all %lu sheets these:\n",
+           batch(2, SCANTLING_BATCH_LENGTH), batch(SCANTLING_MOST_SHEETS, SCANTLING_BATCH_COUNT));
+    fwrite(reports, 1, batch(SCANTLING_MOST_SHEETS, SCANTLING_BATCH_LENGTH), stdout);
     printf("least root of 5000: %lu\n", (unsigned long)scantling_least_root(5000));
     return 0;
 }

@@ -1,7 +1,7 @@
 /*
  * Program `bench`: how much the archive does in a second beside the separate program, and for the least root beside
- * floating point. Every round measures all works in turn; the medians of the rounds are printed. The sums of both sides
- * must agree.
+ * floating point; and how long it takes for a sheet of a book beside the same sheets one by one. Every round measures
+ * all works in turn; the medians of the rounds are printed. The sums of all sides must agree.
  */
 #define _POSIX_C_SOURCE 199309L
 
@@ -20,6 +20,7 @@
 #define SECONDS 0.18 /* of one measurement, at least */
 #define INPUTS 2000
 #define PLATES 8
+#define BOOK_INPUTS 1984 /* sheets: 31 books of 64; books of 8, 16 and 32 come out even */
 
 /* ---- Inputs, all of them accepted ---- */
 
@@ -31,6 +32,10 @@ struct input {
 enum { EXACT, MINUS, MINUSES }; /* all plates without a minus, or all with one */
 static struct input inputs[PARTS][MINUSES][INPUTS];
 static uint64_t long_numbers[INPUTS], short_numbers[INPUTS];
+
+/* Sheets of both parts by turns, one after another. Any sheets in a row are a book. */
+static uint8_t all_sheets[BOOK_INPUTS * TEXT_ROOM];
+static size_t sheet_starts[BOOK_INPUTS + 1]; /* and the end of the last */
 
 static void keep_input(struct question *question, uint32_t minus, struct input *input)
 {
@@ -59,6 +64,16 @@ static void draw_input(struct rng *rng, enum part part, size_t number)
     keep_input(&question, 30, &inputs[part][MINUS][number]);
 }
 
+static void lay_sheets(void)
+{
+    sheet_starts[0] = 0;
+    for (size_t i = 0; i < BOOK_INPUTS; i++) {
+        const struct text *sheet = &inputs[i % 2 == 0 ? PART_END : PART_BLIND][EXACT][i / 2].sheet;
+        memcpy(all_sheets + sheet_starts[i], sheet->bytes, sheet->length);
+        sheet_starts[i + 1] = sheet_starts[i] + sheet->length;
+    }
+}
+
 static void draw_inputs(void)
 {
     struct rng rng = {8532};
@@ -68,17 +83,20 @@ static void draw_inputs(void)
         long_numbers[i] = rng_of_length(&rng, rng_below(&rng, 65));
         short_numbers[i] = rng_of_length(&rng, 16 + rng_below(&rng, 19));
     }
+    lay_sheets();
 }
 
 /* ---- One pass over the inputs; the sum of what was found ---- */
 
 struct pass {
     uint64_t (*run)(const struct pass *pass); /* null where there is none */
+    size_t count;                             /* of what a pass works */
     const struct input *inputs;               /* of calls and sheets */
     enum part part;                           /* of calls */
     size_t (*sheet)(const uint8_t *text, size_t length, uint8_t *out, size_t out_length);
     const uint64_t *numbers;                  /* of roots */
     uint64_t (*root)(uint64_t n);
+    size_t sheets;                            /* of a book */
 };
 
 /* Plates chosen. */
@@ -120,6 +138,59 @@ static uint64_t reports(const struct pass *pass)
     return sum;
 }
 
+/* ---- Books; the space of one is lent anew to the next ---- */
+
+static uint8_t book_space[SCANTLING_LONGEST_BATCH];
+
+/* Length and last digit of a book's reports; 0 of a book that is refused. */
+static uint64_t book_sum(size_t length)
+{
+    return length < 2 ? 0 : length + book_space[length - 2];
+}
+
+static uint64_t archive_books(const struct pass *pass)
+{
+    uint64_t sum = 0;
+    for (size_t i = 0; i < BOOK_INPUTS; i += pass->sheets)
+        sum += book_sum((size_t)scantling_batch(
+            all_sheets + sheet_starts[i], sheet_starts[i + pass->sheets] - sheet_starts[i], SCANTLING_MOST_SHEETS,
+            book_space, sizeof book_space, SCANTLING_BATCH_LENGTH));
+    return sum;
+}
+
+static uint64_t separate_books(const struct pass *pass)
+{
+    uint64_t sum = 0, figures[BATCH_PLACES];
+    for (size_t i = 0; i < BOOK_INPUTS; i += pass->sheets) {
+        paper_book(
+            all_sheets + sheet_starts[i], sheet_starts[i + pass->sheets] - sheet_starts[i], SCANTLING_MOST_SHEETS,
+            book_space, sizeof book_space, figures);
+        sum += book_sum((size_t)figures[BATCH_LENGTH_PLACE]);
+    }
+    return sum;
+}
+
+/* The sheets of the book from this one on, each by itself, their reports one after another. Returns the length. */
+static size_t work_sheets(size_t first, size_t sheets)
+{
+    size_t at = 0;
+    for (size_t i = first; i < first + sheets; i++)
+        at += scantling_sheet(
+            all_sheets + sheet_starts[i], sheet_starts[i + 1] - sheet_starts[i], book_space + at,
+            sizeof book_space - at);
+    return at;
+}
+
+static uint64_t one_by_one(const struct pass *pass)
+{
+    uint64_t sum = 0;
+    for (size_t i = 0; i < BOOK_INPUTS; i += pass->sheets)
+        sum += book_sum(work_sheets(i, pass->sheets));
+    return sum;
+}
+
+/* ---- Roots ---- */
+
 static uint64_t roots(const struct pass *pass)
 {
     uint64_t sum = 0;
@@ -148,19 +219,24 @@ static uint64_t float_root(uint64_t n)
 
 struct work {
     const char *name;
-    struct pass passes[3]; /* archive, separate program, floating point if any */
+    /* archive, separate program, floating point if any; of books archive, one by one, separate program */
+    struct pass passes[3];
 };
 
-#define CALLS(of)                                                        \
-    {{.run = archive_figures, .inputs = inputs[of][EXACT], .part = of}, \
-     {.run = separate_figures, .inputs = inputs[of][EXACT], .part = of}}
-#define SHEETS(of, minus)                                                       \
-    {{.run = reports, .inputs = inputs[of][minus], .sheet = scantling_sheet}, \
-     {.run = reports, .inputs = inputs[of][minus], .sheet = paper_sheet}}
-#define ROOTS(of)                                                 \
-    {{.run = roots, .numbers = of, .root = scantling_least_root}, \
-     {.run = roots, .numbers = of, .root = search_root},          \
-     {.run = roots, .numbers = of, .root = float_root}}
+#define CALLS(of)                                                                         \
+    {{.run = archive_figures, .count = INPUTS, .inputs = inputs[of][EXACT], .part = of}, \
+     {.run = separate_figures, .count = INPUTS, .inputs = inputs[of][EXACT], .part = of}}
+#define SHEETS(of, minus)                                                                        \
+    {{.run = reports, .count = INPUTS, .inputs = inputs[of][minus], .sheet = scantling_sheet}, \
+     {.run = reports, .count = INPUTS, .inputs = inputs[of][minus], .sheet = paper_sheet}}
+#define ROOTS(of)                                                                  \
+    {{.run = roots, .count = INPUTS, .numbers = of, .root = scantling_least_root}, \
+     {.run = roots, .count = INPUTS, .numbers = of, .root = search_root},          \
+     {.run = roots, .count = INPUTS, .numbers = of, .root = float_root}}
+#define BOOKS(of)                                                 \
+    {{.run = archive_books, .count = BOOK_INPUTS, .sheets = of}, \
+     {.run = one_by_one, .count = BOOK_INPUTS, .sheets = of},    \
+     {.run = separate_books, .count = BOOK_INPUTS, .sheets = of}}
 
 static const struct work works[] = {
     {"endplate calls", CALLS(PART_END)},
@@ -171,8 +247,13 @@ static const struct work works[] = {
     {"blind flange sheets, minus", SHEETS(PART_BLIND, MINUS)},
     {"least roots, 0 to 64 bits", ROOTS(long_numbers)},
     {"least roots, 16 to 34 bits", ROOTS(short_numbers)},
+    {"8 sheets in a book", BOOKS(8)},
+    {"16 sheets in a book", BOOKS(16)},
+    {"32 sheets in a book", BOOKS(32)},
+    {"64 sheets in a book", BOOKS(64)},
 };
 #define WORKS (sizeof works / sizeof works[0])
+#define FIRST_BOOKS 8 /* of the works */
 
 static double rates[WORKS][3][ROUNDS]; /* per second */
 volatile uint64_t bench_sink;          /* keeps the passes from being left out */
@@ -198,7 +279,7 @@ static double measure(const struct pass *pass, uint64_t expected, const char *na
         passes++;
         elapsed = now() - start;
     }
-    return passes * INPUTS / elapsed;
+    return passes * (double)pass->count / elapsed;
 }
 
 static void measure_round(int round)
@@ -242,6 +323,19 @@ static void print_work(size_t i)
     printf("\n");
 }
 
+static double nanoseconds(const double *values)
+{
+    return 1e9 / median(values);
+}
+
+/* Ratios of the times: of a book to its sheets one by one, and to the separate program's. */
+static void print_books(size_t i)
+{
+    printf("%-28s %14.0f %14.0f %8.3f %14.0f %8.2f\n", works[i].name, nanoseconds(rates[i][0]),
+           nanoseconds(rates[i][1]), median_ratio(rates[i][1], rates[i][0]), nanoseconds(rates[i][2]),
+           median_ratio(rates[i][2], rates[i][0]));
+}
+
 int main(void)
 {
     draw_inputs();
@@ -249,7 +343,11 @@ int main(void)
         measure_round(round);
     printf("median of %d rounds, per second; ratios are archive to the other\n", ROUNDS);
     printf("%-28s %14s %14s %8s %14s %8s\n", "work", "archive", "separate", "ratio", "sqrt", "ratio");
-    for (size_t i = 0; i < WORKS; i++)
+    for (size_t i = 0; i < FIRST_BOOKS; i++)
         print_work(i);
+    printf("nanoseconds a sheet; ratios are book to the other\n");
+    printf("%-28s %14s %14s %8s %14s %8s\n", "work", "book", "one by one", "ratio", "separate", "ratio");
+    for (size_t i = FIRST_BOOKS; i < WORKS; i++)
+        print_books(i);
     return 0;
 }

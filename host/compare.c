@@ -1,6 +1,6 @@
 /*
- * Program `compare [NUMERIC_CALLS [SHEETS [SEED]]]`: calls the archive as a drawing program would and compares every
- * answer with the separate calculation. Exits with 1 at the first difference.
+ * Program `compare [NUMERIC_CALLS [SHEETS [SEED [BOOKS]]]]`: calls the archive as a drawing program would and compares
+ * every answer with the separate calculation. Exits with 1 at the first difference.
  */
 #include "compare.h"
 #include "known.h"
@@ -202,6 +202,21 @@ static void compare_roots(struct compare *compare)
         compare_roots_of_length(compare, bits);
 }
 
+/* ---- Books ---- */
+
+static void compare_known_books(struct compare_books *compare)
+{
+    for (size_t number = 0; number < known_book_count; number++)
+        compare_known_book(compare, &known_books[number]);
+}
+
+static void compare_all_books(struct compare_books *compare, uint64_t most)
+{
+    compare_known_books(compare);
+    while (compare->books < most)
+        compare_drawn_book(compare);
+}
+
 /* ---- The program ---- */
 
 static void print_causes(const char *name, const uint64_t accepted[PARTS], const uint64_t causes[CAUSES])
@@ -229,10 +244,10 @@ static void print_counts(const struct compare *compare)
 {
     printf("%" PRIu64 " numeric calls, %" PRIu64 " sheets, %" PRIu64 " other spaces, %" PRIu64 " roots, %" PRIu64
            " accuracy checks\n",
-           compare->calls, compare->sheets, compare->spaces, compare->roots, compare->accuracy);
+           compare->calls, compare->sheets, compare->spaces, compare->roots, compare->accuracy.checks);
     printf("of the accuracy checks %" PRIu64 " on flanges of 0.50 to 4.00 mm, %" PRIu64
            " on bolts that would not carry whole newtons\n",
-           compare->thin, compare->fraction);
+           compare->accuracy.thin, compare->accuracy.fraction);
     printf("%" PRIu64 " numeric questions without a list; sheets in order %" PRIu64 " with a list, %" PRIu64
            " with the usual stock, %" PRIu64 " with none; of the lists %" PRIu64 " with a colon at some entries, %" PRIu64
            " at all\n",
@@ -246,7 +261,22 @@ static void print_counts(const struct compare *compare)
     printf("\n");
     print_causes("numeric questions", compare->question_accepted, compare->question_causes);
     print_causes("sheets", compare->sheet_accepted, compare->sheet_causes);
-    printf("no difference\n");
+}
+
+static void print_books(const struct compare_books *compare)
+{
+    printf("%" PRIu64 " books of %" PRIu64 " pieces, %" PRIu64 " of more than %d pieces, %" PRIu64
+           " that end in LF part=; %" PRIu64 " calls\n",
+           compare->books, compare->pieces, compare->past_limit, PAPER_MOST_SHEETS, compare->ends_in_key,
+           compare->calls);
+    printf("limits and spaces of books: accepted %" PRIu64 "; refused by cause %d:%" PRIu64 " %d:%" PRIu64 "; %" PRIu64
+           " with other pieces past the limit\n",
+           compare->asked[CAUSE_NONE], CAUSE_SPACE, compare->asked[CAUSE_SPACE], CAUSE_LIMIT,
+           compare->asked[CAUSE_LIMIT], compare->other_ends);
+    print_causes("pieces", compare->accepted, compare->causes);
+    printf("%" PRIu64 " refused pieces between accepted ones; %" PRIu64 " pieces by themselves, %" PRIu64
+           " accuracy checks, %" PRIu64 " of them on flanges of 0.50 to 4.00 mm\n",
+           compare->between_accepted, compare->alone, compare->accuracy.checks, compare->accuracy.thin);
 }
 
 static uint64_t argument(int count, char **words, int number, uint64_t otherwise)
@@ -255,8 +285,8 @@ static uint64_t argument(int count, char **words, int number, uint64_t otherwise
     if (number >= count)
         return otherwise;
     uint64_t value = strtoull(words[number], &end, 10);
-    if (words[number][0] < '0' || words[number][0] > '9' || *end != '\0' || count > 4) {
-        fprintf(stderr, "usage: compare [NUMERIC_CALLS [SHEETS [SEED]]]\n");
+    if (words[number][0] < '0' || words[number][0] > '9' || *end != '\0' || count > 5) {
+        fprintf(stderr, "usage: compare [NUMERIC_CALLS [SHEETS [SEED [BOOKS]]]]\n");
         exit(2);
     }
     return value;
@@ -265,9 +295,12 @@ static uint64_t argument(int count, char **words, int number, uint64_t otherwise
 int main(int argc, char **argv)
 {
     static struct compare compare;
+    static struct compare_books books;
     const uint64_t calls = argument(argc, argv, 1, 1000000);
     const uint64_t sheets = argument(argc, argv, 2, 1000000);
     compare.rng.state = argument(argc, argv, 3, 8532);
+    const uint64_t most_books = argument(argc, argv, 4, 75000);
+    books.rng = compare.rng;
     printf("seed %" PRIu64 "\n", compare.rng.state);
     fflush(stdout);
     compare_known(&compare);
@@ -279,5 +312,9 @@ int main(int argc, char **argv)
     while (compare.sheets < sheets)
         compare_drawn_sheet(&compare);
     print_counts(&compare);
+    fflush(stdout);
+    compare_all_books(&books, most_books);
+    print_books(&books);
+    printf("no difference\n");
     return 0;
 }

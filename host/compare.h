@@ -3,7 +3,14 @@
 #define COMPARE_H
 
 #include "archive.h"
-#include "sheets.h"
+#include "books.h"
+
+/* Accepted answers judged by the exact inequalities. */
+struct accuracy_counts {
+    uint64_t checks;
+    uint64_t thin;     /* of them, blind flanges with a need or an edge from 0.50 mm to 4.00 mm */
+    uint64_t fraction; /* and those whose bolts carry the loads in tenths and would not carry them in whole newtons */
+};
 
 /* Accepted answers, by what the plate chosen is and what stands beside it in the list. */
 struct plate_counts {
@@ -22,9 +29,7 @@ struct compare {
     uint64_t sheets;
     uint64_t spaces;   /* further calls with a sheet, in spaces of other lengths */
     uint64_t roots;
-    uint64_t accuracy; /* accepted answers judged by the exact inequalities */
-    uint64_t thin;     /* of them, blind flanges with a need or an edge from 0.50 mm to 4.00 mm */
-    uint64_t fraction; /* and those whose bolts carry the loads in tenths and would not carry them in whole newtons */
+    struct accuracy_counts accuracy;
     uint64_t standard; /* questions of the calls without a list */
     uint64_t stocks[PAPER_STOCKS]; /* sheets that meet no cause 1, by what their plates line names */
     uint64_t some_colons, all_colons; /* of them, those with a colon at some but not all entries of a list, or at all */
@@ -40,7 +45,13 @@ void compare_question(struct compare *compare, const struct question *question);
 void compare_drawn_question(struct compare *compare);
 
 /* An accepted answer is to be judged: the counts above. */
-void count_accuracy(struct compare *compare, enum part part, const uint32_t *numbers, const uint64_t *figures);
+void count_accuracy(
+    struct accuracy_counts *counts, enum part part, const uint32_t *numbers, const uint64_t *figures);
+
+/* The accuracy demand on the numbers in the archive's report of a text, if the separate program accepts that. */
+void judge_report(
+    struct accuracy_counts *counts, const uint8_t *text, size_t text_length, const struct paper_answer *answer,
+    const uint8_t *report, size_t report_length);
 
 /* The plate chosen, one of plates, for this total. */
 void count_plates(
@@ -56,5 +67,31 @@ void compare_spaces(struct compare *compare, const struct text *text);
 
 /* The number on the line of this key; 0 if the report has no such line. */
 uint64_t report_figure(const uint8_t *report, size_t length, const char *key);
+
+void print_bytes(const char *name, const uint8_t *bytes, size_t length);
+
+/* Books, with random numbers of their own. */
+struct compare_books {
+    struct rng rng;
+    uint64_t books;
+    uint64_t pieces;           /* of all books */
+    uint64_t past_limit;       /* books of more than PAPER_MOST_SHEETS pieces */
+    uint64_t ends_in_key;      /* books that end in LF part= */
+    uint64_t calls;            /* of one place each */
+    uint64_t asked[CAUSES];    /* pairs of a limit and a space, by cause */
+    uint64_t alone;            /* pieces that were answered by themselves too */
+    uint64_t other_ends;       /* books whose pieces past the limit were replaced */
+    uint64_t accepted[PARTS];  /* pieces among the first PAPER_MOST_SHEETS */
+    uint64_t causes[CAUSES];   /* of them, the refused ones by cause */
+    uint64_t between_accepted; /* of these, those with an accepted piece before and another after them */
+    struct accuracy_counts accuracy;
+};
+
+/* A book with some limits and some spaces, by all places or one. */
+void compare_drawn_book(struct compare_books *compare);
+
+/* With every limit about its number of pieces and about the ends, and every space up to some more than its reports. */
+struct known_book;
+void compare_known_book(struct compare_books *compare, const struct known_book *known);
 
 #endif

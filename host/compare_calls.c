@@ -60,15 +60,16 @@ static uint64_t to_newton(uint64_t load)
     return (load + 9) / 10 * 10;
 }
 
-void count_accuracy(struct compare *compare, enum part part, const uint32_t *numbers, const uint64_t *figures)
+void count_accuracy(
+    struct accuracy_counts *counts, enum part part, const uint32_t *numbers, const uint64_t *figures)
 {
-    compare->accuracy++;
+    counts->checks++;
     if (part != PART_BLIND)
         return;
     const uint64_t area = (uint64_t)numbers[BLIND_COUNT] * numbers[BLIND_ROOT];
-    compare->thin += is_thin(figures[BLIND_THICKNESS_PLACE]) || is_thin(figures[BLIND_EDGE_THICKNESS_PLACE]);
-    compare->fraction += area * numbers[BLIND_SB] < to_newton(figures[BLIND_OPERATING_LOAD_PLACE]) ||
-                         area * numbers[BLIND_SA] < to_newton(figures[BLIND_SEATING_LOAD_PLACE]);
+    counts->thin += is_thin(figures[BLIND_THICKNESS_PLACE]) || is_thin(figures[BLIND_EDGE_THICKNESS_PLACE]);
+    counts->fraction += area * numbers[BLIND_SB] < to_newton(figures[BLIND_OPERATING_LOAD_PLACE]) ||
+                        area * numbers[BLIND_SA] < to_newton(figures[BLIND_SEATING_LOAD_PLACE]);
 }
 
 void count_plates(
@@ -98,7 +99,7 @@ static void judge_question(struct compare *compare, const struct asking *asking)
     const struct paper_part *part = &paper_parts[question->part];
     if (asking->figures[PLACE_CAUSE] != CAUSE_NONE)
         return;
-    count_accuracy(compare, question->part, question->numbers, asking->figures);
+    count_accuracy(&compare->accuracy, question->part, question->numbers, asking->figures);
     compare->question_accepted[question->part]++;
     if (part->exact(question->numbers, asking->figures))
         return;

@@ -1,6 +1,5 @@
 /* Sheets. */
 #include "compare.h"
-#include "limits.h"
 #include "scantling.h"
 
 #include <stdio.h>
@@ -32,7 +31,7 @@ static void open_sheet(const struct text *text, struct sheet *sheet)
     sheet->report_length = paper_report(sheet->text, sheet->length, sheet->report, &sheet->answer);
 }
 
-static void print_bytes(const char *name, const uint8_t *bytes, size_t length)
+void print_bytes(const char *name, const uint8_t *bytes, size_t length)
 {
     printf("%s \"", name);
     for (size_t i = 0; i < length; i++)
@@ -73,21 +72,22 @@ uint64_t report_figure(const uint8_t *report, size_t length, const char *key)
     return 0;
 }
 
-/* The accuracy demand on the numbers in the bytes of the archive's report. */
-static void judge_report(struct compare *compare, const struct sheet *sheet, const uint8_t *report)
+void judge_report(
+    struct accuracy_counts *counts, const uint8_t *text, size_t text_length, const struct paper_answer *answer,
+    const uint8_t *report, size_t report_length)
 {
     uint64_t figures[PAPER_PLACES] = {0};
-    const struct paper_part *part = &paper_parts[sheet->answer.part];
-    if (sheet->answer.figures[PLACE_CAUSE] != CAUSE_NONE)
+    const struct paper_part *part = &paper_parts[answer->part];
+    if (answer->figures[PLACE_CAUSE] != CAUSE_NONE)
         return;
     for (uint32_t place = PLACE_REPORT; place <= part->last_place; place++)
-        figures[place] = report_figure(report, sheet->report_length, part->report_keys[place]);
-    count_accuracy(compare, sheet->answer.part, sheet->answer.numbers, figures);
-    if (part->exact(sheet->answer.numbers, figures))
+        figures[place] = report_figure(report, report_length, part->report_keys[place]);
+    count_accuracy(counts, answer->part, answer->numbers, figures);
+    if (part->exact(answer->numbers, figures))
         return;
     printf("not exact:\n");
-    print_bytes("text", sheet->text, sheet->length);
-    print_bytes("report of the archive", report, sheet->report_length);
+    print_bytes("text", text, text_length);
+    print_bytes("report of the archive", report, report_length);
     exit(1);
 }
 
@@ -109,7 +109,8 @@ static void compare_space(struct compare *compare, const struct sheet *sheet, si
         exit(1);
     }
     if (sheet->report_length <= lent)
-        judge_report(compare, sheet, area + GUARD);
+        judge_report(
+            &compare->accuracy, sheet->text, sheet->length, &sheet->answer, area + GUARD, sheet->report_length);
 }
 
 /* Where there is no cause 1, a list alone has colons. */
@@ -161,27 +162,6 @@ void compare_spaces(struct compare *compare, const struct text *text)
         compare_space(compare, &sheet, lent);
     }
     free(sheet.text);
-}
-
-/* Half the sheets are sound, and so is a part of the rest. */
-static void draw_sheet(struct rng *rng, struct text *text)
-{
-    static struct question question;
-    const struct wish nothing = wish_nothing();
-    const uint32_t most = rng_one_in(rng, 4) ? PAPER_SHEET_PLATES : 6;
-    uint32_t kind = rng_below(rng, 20);
-    if (kind < 3)
-        draw_any_limit(rng, &question);
-    else
-        draw_numbers(rng, draw_part(rng), &nothing, &question);
-    if (kind == 3)
-        draw_wild_numbers(rng, 1000000, &question);
-    draw_plates(rng, 0, most, &question);
-    if (rng_one_in(rng, 4))
-        draw_standard_plates(rng, &question);
-    write_sheet(&question, text);
-    for (; kind >= 4 && kind < 10; kind = rng_one_in(rng, 6) ? 4 : 10)
-        damage_text(rng, rng_below(rng, damage_count), text);
 }
 
 void compare_drawn_sheet(struct compare *compare)

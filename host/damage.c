@@ -2,14 +2,9 @@
 
 #include <string.h>
 
-/* Puts these bytes in the place of cut others. What would not fit the room is left out. */
 static void splice(struct text *text, size_t at, size_t cut, const void *bytes, size_t length)
 {
-    if (text->length - cut + length > TEXT_ROOM)
-        return;
-    memmove(text->bytes + at + length, text->bytes + at + cut, text->length - at - cut);
-    memcpy(text->bytes + at, bytes, length);
-    text->length = text->length - cut + length;
+    splice_bytes(text->bytes, &text->length, TEXT_ROOM, at, cut, bytes, length);
 }
 
 static void insert(struct text *text, size_t at, const char *word)

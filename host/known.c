@@ -89,11 +89,15 @@ void known_question(const struct known *known, struct question *question)
     "part=end\nform=c\nmaterial=1\nshell=1\ntemp=150\npressure=" pressure "\ndia=5000\nallow=0\nplates=" plates "\n"
 #define END_REPORT(total, plate) "stress=108\nneed=" total "\ntotal=" total "\nplate=" plate "\n"
 
+#define PRINTED_SHEET                                                                                   \
+    "part=blind\nmaterial=1\ntemp=150\npressure=1000\nallow=100\nod=5000\nwidth=100\nrib=0\nribw=0\n"    \
+    "m=200\ny=110\ncircle=5600\nbolt=20\nroot=2250\ncount=16\nsa=100\nsb=100\nplates=2500,3200,4000\n"
+#define PRINTED_REPORT                                                                                  \
+    "stress=108\ncold=108\ng=4900\nb=500\nwm1=2192505\nwm2=846230\nw=2896253\nneed=3073\nedge=1913\n" \
+    "total=3173\nplate=3200\n"
+
 const struct known_sheet known_sheets[] = {
-    {"part=blind\nmaterial=1\ntemp=150\npressure=1000\nallow=100\nod=5000\nwidth=100\nrib=0\nribw=0\nm=200\ny=110\n"
-     "circle=5600\nbolt=20\nroot=2250\ncount=16\nsa=100\nsb=100\nplates=2500,3200,4000\n",
-     "stress=108\ncold=108\ng=4900\nb=500\nwm1=2192505\nwm2=846230\nw=2896253\nneed=3073\nedge=1913\ntotal=3173\n"
-     "plate=3200\n"},
+    {PRINTED_SHEET, PRINTED_REPORT},
     {"", "refused=1\nplace=1\n"},
     {END_SHEET("1080", ""), END_REPORT("2500", "3000")},
     {END_SHEET("1054", ""), END_REPORT("2470", "2500")},
@@ -110,3 +114,53 @@ const struct known_sheet known_sheets[] = {
     {END_SHEET("1080", "2530: 30"), "refused=1\nplace=9\n"},
 };
 const size_t known_sheet_count = sizeof known_sheets / sizeof known_sheets[0];
+
+/* An end, whose report has 43 bytes, and what is refused at a line in 18 or 19; the printed report has 108. */
+#define ONE_END END_SHEET("1080", "2500")
+#define ONE_REPORT END_REPORT("2500", "2500")
+#define BAD_LINE(line) "refused=1\nplace=" line "\n"
+
+/* An end, a sheet that stops too soon, and the printed flange. */
+#define MONDAY ONE_END "part=end\nform=a\n" PRINTED_SHEET
+#define ROOM 1000 /* more than any of these reports */
+
+const struct known_book known_books[] = {
+    {MONDAY, 64, ROOM, {0, 0, 3, 169}, ONE_REPORT BAD_LINE("3") PRINTED_REPORT},
+    {MONDAY, 3, 169, {0, 0, 3, 169}, ONE_REPORT BAD_LINE("3") PRINTED_REPORT},
+    {MONDAY, 2, ROOM, {0, 0, 2, 61}, ONE_REPORT BAD_LINE("3")},
+    {MONDAY, 2, 61, {0, 0, 2, 61}, ONE_REPORT BAD_LINE("3")},
+    {MONDAY, 1, ROOM, {0, 0, 1, 43}, ONE_REPORT},
+    {MONDAY, 64, 168, {15, 169, 0, 0}, ""},
+    {MONDAY, 2, 60, {15, 61, 0, 0}, ""},
+    {MONDAY, 64, 0, {15, 169, 0, 0}, ""},
+    {MONDAY, 0, ROOM, {16, 0, 0, 0}, ""},
+    {MONDAY, 65, ROOM, {16, 0, 0, 0}, ""},
+    {MONDAY, 0, 0, {16, 0, 0, 0}, ""},
+    {"", 1, ROOM, {0, 0, 1, 18}, BAD_LINE("1")},
+    {"", 64, 18, {0, 0, 1, 18}, BAD_LINE("1")},
+    {"", 64, 17, {15, 18, 0, 0}, ""},
+    {"", 65, 17, {16, 0, 0, 0}, ""},
+    {ONE_END, 64, ROOM, {0, 0, 1, 43}, ONE_REPORT},
+    {ONE_END ONE_END, 64, ROOM, {0, 0, 2, 86}, ONE_REPORT ONE_REPORT},
+    {END_SHEET("1080", "none") ONE_END, 64, ROOM, {0, 0, 2, 65}, "refused=14\nplace=2500\n" ONE_REPORT},
+    {ONE_END "part=", 64, ROOM, {0, 0, 2, 61}, ONE_REPORT BAD_LINE("1")},
+    {ONE_END "part", 64, ROOM, {0, 0, 1, 19}, BAD_LINE("10")},
+    {ONE_END "\npart=", 64, ROOM, {0, 0, 2, 37}, BAD_LINE("10") BAD_LINE("1")},
+    {"\n" ONE_END, 64, ROOM, {0, 0, 2, 61}, BAD_LINE("1") ONE_REPORT},
+    {"\n\npart=", 64, ROOM, {0, 0, 2, 36}, BAD_LINE("1") BAD_LINE("1")},
+    {"\npart=\n\npart=", 64, ROOM, {0, 0, 3, 54}, BAD_LINE("1") BAD_LINE("1") BAD_LINE("1")},
+    {"part=\npart=\npart=part=\npart=", 64, ROOM, {0, 0, 4, 72},
+     BAD_LINE("1") BAD_LINE("1") BAD_LINE("1") BAD_LINE("1")},
+    {"part\n" ONE_END, 64, ROOM, {0, 0, 2, 61}, BAD_LINE("1") ONE_REPORT},
+    {"Orders:\n" ONE_END "\r\n" ONE_END, 64, ROOM, {0, 0, 3, 80}, BAD_LINE("1") BAD_LINE("10") ONE_REPORT},
+    {END_SHEET("1080", "2500\r") ONE_END, 64, ROOM, {0, 0, 2, 61}, BAD_LINE("9") ONE_REPORT},
+    {ONE_END "x" ONE_END, 64, ROOM, {0, 0, 1, 19}, BAD_LINE("10")},
+    {ONE_END " " ONE_END, 64, ROOM, {0, 0, 1, 19}, BAD_LINE("10")},
+    {ONE_END "\r" ONE_END, 64, ROOM, {0, 0, 1, 19}, BAD_LINE("10")},
+    {ONE_END "Part=end\nform=c\n", 64, ROOM, {0, 0, 1, 19}, BAD_LINE("10")},
+    {ONE_END "part:end\nform=c\n", 64, ROOM, {0, 0, 1, 19}, BAD_LINE("10")},
+    {END_SHEET("part=", "2500") ONE_END, 64, ROOM, {0, 0, 2, 61}, BAD_LINE("6") ONE_REPORT},
+    {"part=end part=end part=end", 64, ROOM, {0, 0, 1, 18}, BAD_LINE("1")},
+    {"part=end\rpart=end\rpart=end", 64, ROOM, {0, 0, 1, 18}, BAD_LINE("1")},
+};
+const size_t known_book_count = sizeof known_books / sizeof known_books[0];

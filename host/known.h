@@ -26,4 +26,15 @@ struct known_sheet {
 extern const struct known_sheet known_sheets[];
 extern const size_t known_sheet_count;
 
+/* Books with a limit and the length of a space; and what is known of each: its figures by place and its reports. */
+struct known_book {
+    const char *book;
+    uint32_t limit;
+    size_t lent;
+    uint64_t figures[BATCH_PLACES];
+    const char *reports; /* what is written */
+};
+extern const struct known_book known_books[];
+extern const size_t known_book_count;
+
 #endif

@@ -5,8 +5,6 @@
 static const uint32_t column_temperatures[] = {50, 100, 150, 175, 200, 225, 250, 275, 300};
 static const uint32_t plate_materials[] = {1, 2, 3, 4, 5, 6, 8, 10};
 
-#define COUNT(array) ((uint32_t)(sizeof(array) / sizeof(array)[0]))
-
 struct wish wish_nothing(void)
 {
     struct wish wish;

@@ -23,12 +23,12 @@ enum {
 /* Forms a, c, d of 8.3.4 as the numeric call names them. */
 enum { FORM_A = 1, FORM_C = 2, FORM_D = 3 };
 
-/* Causes of refusal; 16 is none. Counts by cause have CAUSES places, one more than the greatest. */
+/* Causes of refusal; 16 is of a book alone. Counts by cause have CAUSES places, one more than the greatest. */
 enum {
     CAUSE_NONE = 0, CAUSE_LINE = 1, CAUSE_MATERIAL = 2, CAUSE_PRESSURE = 3, CAUSE_TEMPERATURE = 4,
     CAUSE_DESIGN_STRESS = 5, CAUSE_DIAMETER = 6, CAUSE_ALLOWANCE = 7, CAUSE_WIDTH = 8, CAUSE_GASKET = 9,
     CAUSE_BOLTS = 10, CAUSE_BOLT_STRESS = 11, CAUSE_CIRCLE = 12, CAUSE_OVERLOAD = 13, CAUSE_PLATE = 14,
-    CAUSE_SPACE = 15, CAUSE_RIB = 17, CAUSES
+    CAUSE_SPACE = 15, CAUSE_LIMIT = 16, CAUSE_RIB = 17, CAUSES
 };
 
 /* Places of the figures. Those from 2 on stand in report order; a place without a figure holds 0. */
@@ -135,5 +135,19 @@ size_t paper_report(const uint8_t *text, size_t length, uint8_t *report, struct 
 
 /* The same in a lent space, which is written only if the report fits it. */
 size_t paper_sheet(const uint8_t *text, size_t length, uint8_t *out, size_t out_length);
+
+#define PAPER_MOST_SHEETS 64 /* the greatest limit of a book */
+
+/* Places of a book's answer, from 2 on: the count of pieces worked, and the length written. */
+enum { BATCH_COUNT_PLACE = PLACE_REPORT, BATCH_LENGTH_PLACE, BATCH_PLACES };
+
+/* The length of a book's first piece. What follows it is a book of the others. */
+size_t paper_piece(const uint8_t *text, size_t length);
+
+/* The reports of a book's pieces, of as many as limit at most, one after another from the front of out; out is
+   written only if all of them fit it. */
+void paper_book(
+    const uint8_t *text, size_t length, uint32_t limit, uint8_t *out, size_t out_length,
+    uint64_t figures[BATCH_PLACES]);
 
 #endif

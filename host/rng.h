@@ -14,6 +14,9 @@ uint64_t rng_bits(struct rng *rng);
 /* 0 to bound - 1; bound is 1 or more. */
 uint32_t rng_below(struct rng *rng, uint32_t bound);
 
+/* The entries of an array, as such a bound. */
+#define COUNT(array) ((uint32_t)(sizeof(array) / sizeof(array)[0]))
+
 /* low to high, both included; low if high is below it. */
 uint32_t rng_between(struct rng *rng, uint32_t low, uint32_t high);
 

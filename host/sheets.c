@@ -1,15 +1,23 @@
 #include "sheets.h"
 
+#include "limits.h"
+
 #include <stdio.h>
 #include <string.h>
 
+void splice_bytes(
+    uint8_t *text, size_t *text_length, size_t room, size_t at, size_t cut, const void *bytes, size_t length)
+{
+    if (*text_length - cut + length > room)
+        return;
+    memmove(text + at + length, text + at + cut, *text_length - at - cut);
+    memcpy(text + at, bytes, length);
+    *text_length = *text_length - cut + length;
+}
+
 static void append(struct text *text, const char *word)
 {
-    size_t length = strlen(word);
-    if (length > TEXT_ROOM - text->length)
-        return;
-    memcpy(text->bytes + text->length, word, length);
-    text->length += length;
+    splice_bytes(text->bytes, &text->length, TEXT_ROOM, text->length, 0, word, strlen(word));
 }
 
 static void append_number(struct text *text, uint32_t number)
@@ -59,4 +67,24 @@ void write_sheet(const struct question *question, struct text *text)
     for (size_t i = 0; i < part->numbers; i++)
         append_line(text, part->keys[i], question->numbers[i]);
     append_plates(text, question);
+}
+
+void draw_sheet(struct rng *rng, struct text *text)
+{
+    static struct question question;
+    const struct wish nothing = wish_nothing();
+    const uint32_t most = rng_one_in(rng, 4) ? PAPER_SHEET_PLATES : 6;
+    uint32_t kind = rng_below(rng, 20);
+    if (kind < 3)
+        draw_any_limit(rng, &question);
+    else
+        draw_numbers(rng, draw_part(rng), &nothing, &question);
+    if (kind == 3)
+        draw_wild_numbers(rng, 1000000, &question);
+    draw_plates(rng, 0, most, &question);
+    if (rng_one_in(rng, 4))
+        draw_standard_plates(rng, &question);
+    write_sheet(&question, text);
+    for (; kind >= 4 && kind < 10; kind = rng_one_in(rng, 6) ? 4 : 10)
+        damage_text(rng, rng_below(rng, damage_count), text);
 }

@@ -15,6 +15,8 @@
  *     7 n a = the least t with a * t * t >= n; 0 if a is 0
  *     8, 9: as 1 and 2 without the plates, for the calls that take no list
  *     10 total plates... = the smallest plate that serves, as thickness:minus, or none
+ *     11 LIMIT ROOM TEXT: a book in the signs of 3, with a limit and the length of the space lent
+ *         = cause figure count length : an array of 512 dots of which ROOM were lent, LF shown as `/`
  */
 #include "vectors.h"
 
@@ -158,17 +160,34 @@ static size_t decode(const char *signs, uint8_t text[VECTOR_LINE])
     return length;
 }
 
+/* A number, most or less, and one space; end is set past them. */
+static unsigned long read_before_text(const char *line, const char *from, unsigned long most, const char **end)
+{
+    char *after;
+    const unsigned long number = strtoul(from, &after, 10);
+    if (number > most || *after != ' ')
+        give_up("no number and text", line);
+    *end = after + 1;
+    return number;
+}
+
+static void print_space(const uint8_t *space, size_t length)
+{
+    printf(" : ");
+    for (size_t i = 0; i < length; i++)
+        putchar(space[i] == '\n' ? '/' : space[i]);
+    printf("\n");
+}
+
 static void work_sheet(const char *line, const struct kind *kind)
 {
     (void)kind;
     static uint8_t text[VECTOR_LINE];
     uint8_t report[PAPER_REPORT_ROOM], space[VECTOR_ROOM];
     struct paper_answer answer;
-    char *end;
-    const unsigned long room = strtoul(line + 2, &end, 10);
-    if (room > VECTOR_ROOM || *end != ' ')
-        give_up("no room and text", line);
-    const size_t length = paper_report(text, decode(end + 1, text), report, &answer);
+    const char *signs;
+    const unsigned long room = read_before_text(line, line + 2, VECTOR_ROOM, &signs);
+    const size_t length = paper_report(text, decode(signs, text), report, &answer);
     if (length > VECTOR_ROOM)
         give_up("a report longer than any space", line);
     memset(space, '.', sizeof space);
@@ -176,10 +195,24 @@ static void work_sheet(const char *line, const struct kind *kind)
         memcpy(space, report, length);
     const uint64_t cause = length <= room ? answer.figures[PLACE_CAUSE] : CAUSE_SPACE;
     const uint64_t figure = length <= room ? answer.figures[PLACE_FIGURE] : length;
-    printf("%s = %" PRIu64 " %" PRIu64 " %lu : ", line, cause, figure, (unsigned long)length);
-    for (size_t i = 0; i < sizeof space; i++)
-        putchar(space[i] == '\n' ? '/' : space[i]);
-    printf("\n");
+    printf("%s = %" PRIu64 " %" PRIu64 " %lu", line, cause, figure, (unsigned long)length);
+    print_space(space, sizeof space);
+}
+
+static void work_book(const char *line, const struct kind *kind)
+{
+    (void)kind;
+    static uint8_t text[VECTOR_LINE];
+    uint8_t space[VECTOR_BOOK_ROOM];
+    uint64_t figures[BATCH_PLACES];
+    const char *signs;
+    const uint32_t limit = (uint32_t)read_before_text(line, line + 3, UINT32_MAX, &signs);
+    const unsigned long room = read_before_text(line, signs, VECTOR_BOOK_ROOM, &signs);
+    memset(space, '.', sizeof space);
+    paper_book(text, decode(signs, text), limit, space, room, figures);
+    printf("%s =", line);
+    print_figures(figures, BATCH_LENGTH_PLACE);
+    print_space(space, sizeof space);
 }
 
 static void work_numbers(const char *line, const struct kind *kind)
@@ -223,6 +256,7 @@ static const struct kind kinds[KINDS] = {
     [KIND_ENDPLATE_STANDARD] = {.work = work_question, .part = PART_END, .standard = 1},
     [KIND_BLIND_FLANGE_STANDARD] = {.work = work_question, .part = PART_BLIND, .standard = 1},
     [KIND_SMALLEST_SERVING] = {.work = work_choice},
+    [KIND_BOOK] = {.work = work_book},
 };
 
 static void work_line(const char *line)

@@ -1,4 +1,5 @@
-/* `vectors make`: the tables, roots and plates, then the calculations, then sheets; last, lists longer than any other. */
+/* `vectors make`: the tables, roots and plates, then the calculations, then sheets and books; last, lists longer than
+   any other. */
 #include "known.h"
 #include "limits.h"
 #include "vectors.h"
@@ -8,7 +9,6 @@
 #include <stdlib.h>
 #include <string.h>
 
-#define COUNT(array) (sizeof(array) / sizeof(array)[0])
 #define LONG_LIST 200 /* plates */
 
 static void put_pair(enum vector_kind kind, uint64_t n, uint64_t by)
@@ -570,6 +570,79 @@ static void put_sheets(struct rng *rng)
     put_thin(rng, 10, put_sheet);
 }
 
+/* ---- Books, in the signs of a line ---- */
+
+/* Reports of 43, 22, 18 and 108 bytes. */
+#define END_SIGNS "part=end/form=c/material=1/shell=1/temp=150/pressure=1080/dia=5000/allow=0/plates=2500/"
+#define NO_PLATE_SIGNS "part=end/form=c/material=1/shell=1/temp=150/pressure=1080/dia=5000/allow=0/plates=none/"
+#define BAD_SIGNS "part=end/form=a/"
+#define BLIND_SIGNS                                                                                             \
+    "part=blind/material=1/temp=150/pressure=1000/allow=100/od=5000/width=100/rib=0/ribw=0/m=200/y=110/circle=5600/" \
+    "bolt=20/root=2250/count=16/sa=100/sb=100/plates=2500,3200,4000/"
+
+static void put_book(uint32_t limit, uint32_t room, const char *signs)
+{
+    printf("%d %" PRIu32 " %" PRIu32 " %s\n", (int)KIND_BOOK, limit, room, signs);
+}
+
+/* Where a book is cut and where not; and a refused piece first, between and last. */
+static void put_cuts(void)
+{
+    static const char *const books[] = {
+        "", "/", "part=", "part=/", "/part=", "//part=/", "part=/part=", "part=/part=/part=/part=/", "part=/part/part=",
+        "part=part=/part=part=", "part=//part=", "=part=/=part=", "part/part=/", "/p/pa/par/part/part=", "/parpart=",
+        "/ part=", "/Part=", "/part =", "/part:", "\\part=\\part=", "part=\\/part=", "/\\part=", "^/part=", "/^part=",
+        "/part^=", "part=end part=end", END_SIGNS, END_SIGNS END_SIGNS, END_SIGNS "part=", END_SIGNS "part",
+        END_SIGNS "x" END_SIGNS, END_SIGNS " " END_SIGNS, END_SIGNS "\\/" END_SIGNS, END_SIGNS "/" END_SIGNS,
+        "/" END_SIGNS, "Orders/" END_SIGNS, "~" END_SIGNS, "part=end/form=part=/material=1/" END_SIGNS,
+        "part=end/form=/part=/material=1/" END_SIGNS, BAD_SIGNS END_SIGNS BLIND_SIGNS, END_SIGNS BAD_SIGNS BLIND_SIGNS,
+        BLIND_SIGNS END_SIGNS BAD_SIGNS, END_SIGNS NO_PLATE_SIGNS END_SIGNS, BAD_SIGNS NO_PLATE_SIGNS BAD_SIGNS};
+    for (size_t i = 0; i < COUNT(books); i++)
+        put_book(PAPER_MOST_SHEETS, VECTOR_BOOK_ROOM, books[i]);
+}
+
+/* Three pieces under limits, and in spaces about the length of their reports: 43, 61 and 169. */
+static void put_limits_and_rooms(void)
+{
+    static const uint32_t asked[][2] = {
+        {0, VECTOR_BOOK_ROOM}, {1, VECTOR_BOOK_ROOM}, {2, VECTOR_BOOK_ROOM}, {3, VECTOR_BOOK_ROOM},
+        {4, VECTOR_BOOK_ROOM}, {65, VECTOR_BOOK_ROOM}, {257, VECTOR_BOOK_ROOM}, {UINT32_MAX, VECTOR_BOOK_ROOM}, {0, 0},
+        {64, 0}, {64, 43}, {64, 61}, {64, 168}, {64, 169}, {3, 168}, {3, 169}, {2, 60}, {2, 61}, {1, 42}, {1, 43}};
+    for (size_t i = 0; i < COUNT(asked); i++)
+        put_book(asked[i][0], asked[i][1], END_SIGNS BAD_SIGNS BLIND_SIGNS);
+}
+
+static void put_empty_books(void)
+{
+    static const uint32_t asked[][2] = {{0, 18}, {1, 17}, {1, 18}, {64, 17}, {65, 18}};
+    for (size_t i = 0; i < COUNT(asked); i++)
+        put_book(asked[i][0], asked[i][1], "");
+}
+
+/* Lines of part= alone, with a report of 18 bytes each: 28 of these fit the space, and the figure of 15 tells how many
+   there are. */
+static void put_many_lines(uint32_t count, uint32_t limit)
+{
+    char signs[VECTOR_TEXT + 1] = "";
+    for (uint32_t i = 0; i < count; i++)
+        strcat(signs, "part=/");
+    put_book(limit, VECTOR_BOOK_ROOM, signs);
+}
+
+static void put_books(void)
+{
+    put_cuts();
+    put_limits_and_rooms();
+    put_empty_books();
+    put_many_lines(28, 64);
+    put_many_lines(29, 64);
+    put_many_lines(64, 64);
+    put_many_lines(65, 64);
+    put_many_lines(65, 65);
+    put_many_lines(65, 63);
+    put_many_lines(65, 28);
+}
+
 void make_vectors(void)
 {
     struct rng rng = {8532};
@@ -595,5 +668,6 @@ void make_vectors(void)
     put_drawn(&rng, 6, 0, 3, put_left_over);
     put_thin(&rng, 30, put_question);
     put_sheets(&rng);
+    put_books();
     put_drawn(&rng, 6, 0, LONG_LIST, put_question);
 }

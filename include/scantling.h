@@ -16,6 +16,14 @@
  *     uint8_t report[SCANTLING_LONGEST_REPORT];
  *     size_t length = scantling_sheet(text, text_length, report, sizeof report);
  *     fwrite(report, 1, length, stdout);
+ *
+ * A book, sheets one after another in one text, and the reports of the first 64 of them in a space that these do not
+ * exceed:
+ *
+ *     static uint8_t reports[SCANTLING_LONGEST_BATCH];
+ *     uint64_t length = scantling_batch(
+ *         book, book_length, SCANTLING_MOST_SHEETS, reports, sizeof reports, SCANTLING_BATCH_LENGTH);
+ *     fwrite(reports, 1, (size_t)length, stdout);
  */
 #ifndef SCANTLING_H
 #define SCANTLING_H
@@ -27,9 +35,9 @@
 extern "C" {
 #endif
 
-/* Places of a calculation's figures. A refusal has 0 from 2 on, and any other place is 0. */
+/* Places of a calculation's figures, and of a book's. A refusal has 0 from 2 on, and any other place is 0. */
 enum scantling_place {
-    SCANTLING_CAUSE = 0, /* 0 where the numbers are accepted */
+    SCANTLING_CAUSE = 0, /* 0 where what is asked is accepted */
     SCANTLING_FIGURE = 1 /* the figure that belongs to the cause */
 };
 
@@ -56,7 +64,14 @@ enum scantling_blind_flange_place {
     SCANTLING_BLIND_FLANGE_PLATE = 12             /* the plate chosen, its thickness alone: hundredths of a mm */
 };
 
-/* Causes of refusal, in checking order: 17 comes right after 8. The figure is 0 where none is named. */
+/* Places 2 and 3 of a book. */
+enum scantling_batch_place {
+    SCANTLING_BATCH_COUNT = 2, /* sheets worked, refused ones among them: 1 to the limit */
+    SCANTLING_BATCH_LENGTH = 3 /* bytes written, all of them reports */
+};
+
+/* Causes of refusal, in checking order: 17 comes right after 8, and 16 before all else. The figure is 0 where none is
+   named. */
 enum scantling_cause {
     SCANTLING_ACCEPTED = 0,
     SCANTLING_BAD_LINE = 1,          /* of a sheet only; figure: the line's number, from 1 */
@@ -74,11 +89,16 @@ enum scantling_cause {
     SCANTLING_BAD_BOLT_CIRCLE = 12,
     SCANTLING_BOLTS_OVERLOADED = 13, /* the bolts do not carry the loads */
     SCANTLING_NO_PLATE = 14,         /* no plate of the list or stock serves; figure: the total, hundredths of a mm */
-    SCANTLING_SHORT_SPACE = 15       /* of a sheet only: what is returned is above the length lent */
+    SCANTLING_SHORT_SPACE = 15,      /* of a book; figure: the length needed. Of a sheet scantling_sheet returns it */
+    SCANTLING_BAD_LIMIT = 16         /* of a book only: limit */
 };
 
 /* No report is longer, in bytes. */
 #define SCANTLING_LONGEST_REPORT 319
+
+/* The greatest limit of a book, and a length in bytes that the reports of so many sheets do not exceed. */
+#define SCANTLING_MOST_SHEETS 64
+#define SCANTLING_LONGEST_BATCH (SCANTLING_MOST_SHEETS * SCANTLING_LONGEST_REPORT)
 
 /*
  * A plate in the bytes of a list: two uint32_t of four bytes each, lowest byte first, its thickness and then its mill minus
@@ -149,6 +169,29 @@ uint64_t scantling_blind_flange_standard(
  * stock; one that ends in "plates=none\n" has no plate, and its refusal by cause 14 says the total.
  */
 size_t scantling_sheet(const uint8_t *text, size_t text_length, uint8_t *out, size_t out_length);
+
+/*
+ * Answers the book in text, and returns the one of its numbers that place asks for. The book is cut before every line
+ * that begins with "part=", the first line excepted. Each piece is a sheet on its own; a book of no bytes is one empty
+ * sheet. The first limit pieces are worked, or all if there are fewer. Their reports stand one after another in the
+ * first bytes of out, and the bytes past them are as they were. A refused piece has its two lines there, and the next
+ * is still worked. A line number in a report counts from the sheet's own first line. Where the count is the limit,
+ * nothing tells whether the book has more pieces than were worked.
+ *
+ * The book itself is refused by 16, before all else, if limit is 0 or over SCANTLING_MOST_SHEETS, and by 15 if these
+ * reports are together longer than out_length; the figure of 15 is their length. Then count and length are 0, and all
+ * of out is as it was.
+ *
+ * Each place asked is all of the work once more, and writes out. So ask for the length first: a limit of 1 to 64 and a
+ * space of SCANTLING_LONGEST_BATCH bytes meet neither cause, and otherwise a length of 0 says that there is one, for no
+ * report is empty. A text of any bytes is answered. text and out must not overlap; either may be null if its length is
+ * 0. The reports are gathered on the stack, of which the call takes some 24,000 bytes.
+ */
+uint64_t scantling_batch(
+    const uint8_t *text, size_t text_length,
+    uint32_t limit,  /* sheets worked at most: 1 to 64 */
+    uint8_t *out, size_t out_length,
+    uint32_t place); /* of the number wanted: the cause, its figure, the count or the length; any other is 0 */
 
 /* The least r with r * r not below n, the root that thicknesses are worked with; for measuring. */
 uint64_t scantling_least_root(uint64_t n);

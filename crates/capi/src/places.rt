@@ -1,4 +1,4 @@
-// An answer's figures by place, for C, the plate's thickness alone. Places 0 and 1 of an accepted sheet, its cause and
+// An answer's figures by place, for C; of a plate the thickness alone. Places 0 and 1 of an accepted sheet, its cause and
 // figure, are 0.
 ghost use Rattle.std.specs.Prelude.{◌≡◌, get_or};
 ghost use Rattle.rules.specs.Answer.{in_numbers, Endplate, BlindFlange};
@@ -7,14 +7,14 @@ ghost use Rattle.capi.specs.Places.{figure_at};
 use plates::Plate;
 use rules::{Answer, BlindFlangeFigures, EndplateFigures, Refusal, Size};
 
-// The figure at a place of a list; 0 past its end. In both lists a plate's thickness is made a u64 by `as`: with `u64::from` no
-// proof closes.
-fn at(figures: &[u64], place: u32) -> u64
+// The figure at a place of a list; 0 past its end.
+pub(crate) fn at(figures: &[u64], place: u32) -> u64
     ensures { result ≡ get_or figures.now place 0 }
 {
     figures.get(place as usize).copied().unwrap_or(0)
 }
 
+// The plate's thickness is made a u64 by `as`, here and below: with `u64::from` no proof closes.
 #[tactic(auto, unfolding(crate::specs::Places::figure_at))]
 fn endplate_at(f: EndplateFigures, plate: Plate, place: u32) -> u64
     ensures { result ≡ figure_at (Endplate f plate) place }

@@ -2,7 +2,7 @@
 // callers in Rattle, so `cases` calls `capi`.
 #![tactic(auto)]
 
-ghost use Rattle.std.specs.Prelude.{◌≤◌, ◌≡◌};
+ghost use Rattle.std.specs.Prelude.{◌≤◌, ◌≡◌, get_or, length};
 ghost use Rattle.root.specs.Root.{least_root};
 ghost use Rattle.plates.specs.Entries.{numbers_in, plates_in};
 ghost use Rattle.plates.specs.Plates.{standard_plates};
@@ -10,6 +10,8 @@ ghost use Rattle.rules.specs.Answer.{endplate_answer, blind_flange_answer};
 ghost use Rattle.report.specs.Report.{longest};
 ghost use Rattle.sheet.specs.Outcome.{length_for, space_of};
 ghost use Rattle.sheet.specs.Exact.{SheetExact};
+ghost use Rattle.batch.specs.Book.{book_space, longest_batch, numbers_for, reports_for};
+ghost use Rattle.batch.specs.Exact.{BookExact};
 ghost use Rattle.capi.specs.Call.{endplate_call, blind_flange_call};
 ghost use Rattle.capi.specs.Places.{figure_at, EndplateFigureExact, BlindFlangeFigureExact};
 
@@ -184,6 +186,18 @@ pub extern "C" fn scantling_sheet(text: &[u8], out: &mut [u8]) -> usize
     ensures short { result ≤ longest }
 {
     capi::scantling_sheet(text, out)
+}
+
+// Answers the book of sheets in `text` and writes its reports to the front of `out`, whichever number is asked: by its place
+// the cause, the cause's figure, the count of the pieces worked, or the length written.
+#[unsafe(no_mangle)]
+pub extern "C" fn scantling_batch(text: &[u8], limit: u32, out: &mut [u8], place: u32) -> u64
+    ensures number { result ≡ get_or (numbers_for text.now limit out.old) place 0 }
+    ensures content { out.new ≡ book_space text.now limit out.old }
+    ensures exact { BookExact text.now limit }
+    ensures short { length (reports_for text.now limit) ≤ longest_batch }
+{
+    capi::scantling_batch(text, limit, out, place)
 }
 
 // The least root by itself, for measuring.

@@ -17,3 +17,4 @@ mod UsualStock
 mod WithoutMinus
 mod WithoutColon
 mod MinusTolerance
+mod BookOfSheets

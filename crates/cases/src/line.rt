@@ -15,7 +15,10 @@ pub(crate) fn read_numbers<A: Allocator>(alloc: A, line: &[u8]) -> Result<Vec<u6
         .collect(alloc)
 }
 
-// What stands after the kind and one number.
-pub(crate) fn text_of(line: &[u8]) -> &[u8] {
-    line.splitn(3, |b| *b == b' ').nth(2).unwrap_or(b"")
+// What stands after the kind and so many numbers.
+pub(crate) fn text_after(line: &[u8], numbers: u8) -> &[u8] {
+    let before = usize::from(numbers) + 1;
+    line.splitn(before + 1, |b| *b == b' ')
+        .nth(before)
+        .unwrap_or(b"")
 }

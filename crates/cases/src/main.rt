@@ -1,15 +1,17 @@
-// Runs the sheet reader, the calculations, the choice of a plate, the tables and the root arithmetic on the vectors on
-// standard input. Each line written is a vector and its answer; the file stdout has what must be written. The separate
-// program makes both files: host/vectors.c.
+// Runs the sheet reader, books of sheets, the calculations, the choice of a plate, the tables and the root arithmetic on the
+// vectors on standard input. Each line written is a vector and its answer; the file stdout has what must be written. The
+// separate program makes both files: host/vectors.c.
 #![tactic(auto)]
 
 mod answers;
 mod arithmetic;
 mod blind_flange;
+mod books;
 mod choice;
 mod endplate;
 mod line;
 mod sheets;
+mod signs;
 mod vectors;
 mod words;
 

@@ -1,25 +1,11 @@
 // Runs the sheet reader on a text in a space of some length, filled with dots. Written are the cause, the figure, the
-// length, and the bytes of the whole array that the space is the front of. A `/` stands for an LF in what is read and
-// written; in what is read `\`, `^` and `~` stand for a CR, a NUL and a byte of 255.
+// length, and the bytes of the whole array that the space is the front of, in signs.
+use crate::signs::{shown, text_in};
 use sheet::Outcome;
 use std::io;
 
 // The array's length.
 const ROOM: usize = 160;
-
-fn stored(sign: u8) -> u8 {
-    match sign {
-        b'/' => b'\n',
-        b'\\' => b'\r',
-        b'^' => 0,
-        b'~' => 255,
-        byte => byte,
-    }
-}
-
-fn shown(byte: u8) -> u8 {
-    if byte == b'\n' { b'/' } else { byte }
-}
 
 fn told(rt: &impl Print, outcome: Outcome) -> io::Result<()> {
     let (cause, figure, length) = match outcome {
@@ -36,7 +22,7 @@ pub(crate) fn sheet(rt: &(impl Print + Alloc), numbers: &[u64], signs: &[u8]) ->
         [room, ..] if *room <= ROOM as u64 => *room as usize,
         _ => return Ok(()),
     };
-    let text: Vec<u8, _> = signs.iter().map(|sign| stored(*sign)).collect(rt.alloc())?;
+    let text = text_in(rt.alloc(), signs)?;
     let mut space = [b'.'; ROOM];
     told(rt, sheet::answer(&text, &mut space[..room]))?;
     rt.print(" : ")?;

@@ -2,9 +2,10 @@
 // given the numbers after that. Numbers that do not suit the kind have no answer.
 use crate::arithmetic::{design_stress, quotient, root, root_over};
 use crate::blind_flange::{blind_flange, blind_flange_standard};
+use crate::books::book;
 use crate::choice::smallest_serving;
 use crate::endplate::{endplate, endplate_standard};
-use crate::line::{read_numbers, text_of};
+use crate::line::{read_numbers, text_after};
 use crate::sheets::sheet;
 use std::io::{BufRead, BufReader, Read};
 use std::{fmt, io};
@@ -27,6 +28,7 @@ enum Kind {
     EndplateStandard,
     BlindFlangeStandard,
     SmallestServing,
+    Book,
 }
 
 // A number that names no kind.
@@ -54,6 +56,7 @@ impl TryFrom<u64> for Kind {
             8 => Ok(Kind::EndplateStandard),
             9 => Ok(Kind::BlindFlangeStandard),
             10 => Ok(Kind::SmallestServing),
+            11 => Ok(Kind::Book),
             _ => Err(NoSuchKind),
         }
     }
@@ -64,7 +67,7 @@ impl Kind {
         match self {
             Kind::Endplate => endplate(rt, numbers),
             Kind::BlindFlange => blind_flange(rt, numbers),
-            Kind::Sheet => sheet(rt, numbers, text_of(line)),
+            Kind::Sheet => sheet(rt, numbers, text_after(line, 1)),
             Kind::DesignStress => design_stress(rt, numbers),
             Kind::Quotient => quotient(rt, numbers),
             Kind::Root => root(rt, numbers),
@@ -72,6 +75,7 @@ impl Kind {
             Kind::EndplateStandard => endplate_standard(rt, numbers),
             Kind::BlindFlangeStandard => blind_flange_standard(rt, numbers),
             Kind::SmallestServing => smallest_serving(rt, numbers),
+            Kind::Book => book(rt, numbers, text_after(line, 2)),
         }
     }
 }

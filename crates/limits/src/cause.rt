@@ -1,5 +1,5 @@
-// Cause of a refusal, for the whole project, by document 01's number (17: document 02). 15, a space shorter than the report, is
-// no cause of this type: it is about the lent space alone.
+// Cause of a sheet's refusal, for the whole project, by document 01's number (17: document 02). 15 and 16 are no causes of this
+// type: they are about a call's space and limit.
 
 #[derive(Clone, Copy, Debug, PartialEq, Eq)]
 pub enum Cause {

@@ -1,0 +1,5 @@
+-- What the contracts of batch cite, and the laws that callers cite.
+pub mod Pieces
+pub mod Book
+pub mod Exact
+pub mod Laws

@@ -1,0 +1,2 @@
+-- Laws that the proof of `reports_of` cites.
+mod AllWorked
