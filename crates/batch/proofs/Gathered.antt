@@ -16,6 +16,7 @@ use Rattle.sheet.specs.Laws.{space_front}
 use Rattle.batch.specs.Pieces.{pieces_of, pieces_left}
 use Rattle.batch.specs.Book.{most_pieces, worked}
 
+-- within the greatest limit those worked are the first pieces
 pub worked_is : (book : List ℕ) (limit : ℕ) → limit ≤ most_pieces → take limit (pieces_of book) ≡ worked book limit
 unfolding worked
 worked_is book zero h = refl

@@ -10,7 +10,7 @@ use Rattle.batch.specs.Book.{most_pieces, longest_batch, bad_limit, worked, repo
 use Rattle.batch.specs.Exact.{BookExact}
 
 pub limit_bad : (limit : ℕ) → (limit ≡ 0) ⊎ ((limit ≡ 0 → ⊥) × (most_pieces < limit)) → bad_limit limit ≡ true
-limit_bad limit (inl e) = rw e
+limit_bad limit (inl e) = rw e refl
 limit_bad limit (inr h) = rw (lt-ltb most_pieces limit h.1) (or-true (eqb limit 0))
 
 pub limit_good : (limit : ℕ) → (limit ≡ 0 → ⊥) → limit ≤ most_pieces → bad_limit limit ≡ false
@@ -21,7 +21,7 @@ module _ (book space : List ℕ) (limit : ℕ) where
   module _ (bad : bad_limit limit ≡ true) where
     pub bad_numbers : numbers_of BadLimit ≡ numbers_for book limit space
     unfolding numbers_for
-    bad_numbers = rw bad
+    bad_numbers = rw bad refl
 
     pub bad_exact : BookExact book limit
     unfolding worked
@@ -34,9 +34,9 @@ module _ (book space : List ℕ) (limit : ℕ) where
   module _ (good : bad_limit limit ≡ false) {n : ℕ} (size : n ≡ length (reports_for book limit)) where
     pub short_numbers : length space < n → numbers_of (ShortSpace n) ≡ numbers_for book limit space
     unfolding numbers_for
-    short_numbers h = rw (good, ← size, lt-leb n (length space) h)
+    short_numbers h = rw (good, ← size, lt-leb n (length space) h) refl
 
     pub written_numbers : {count : ℕ} → count ≡ length (worked book limit) → n ≤ length space
         → numbers_of (Reports count n) ≡ numbers_for book limit space
     unfolding numbers_for
-    written_numbers e h = rw (good, ← size, le-leb n (length space) h, e)
+    written_numbers e h = rw (good, ← size, le-leb n (length space) h, e) refl

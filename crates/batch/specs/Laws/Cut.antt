@@ -98,12 +98,10 @@ mark_lacks : Lacks line_feed mark
 unfolding index_of index_after
 mark_lacks = refl
 
-first : List (List ℕ) → List ℕ
-first [] = []
-first (p ∷ ps) = p
+abbrev first : List (List ℕ) → List ℕ
+first ps = get_or ps 0 []
 
 first_byte : (x : ℕ) (ps : List (List ℕ)) → first (byte_before false x ps) ≡ x ∷ first ps
-unfolding first
 first_byte x [] = refl
 first_byte x (p ∷ ps) = refl
 
@@ -137,7 +135,6 @@ cut_before :
     pieces_of rest ≡ ps →
     CutByLines ps →
     CutByLines (byte_before cut x ps)
-unfolding first
 cut_before cut x rest [] e h c = absurd c
 cut_before true x rest (q ∷ ps) e h c =
     let ends = both (eqb x line_feed) (begins mark rest) e in

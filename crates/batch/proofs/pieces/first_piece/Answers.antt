@@ -34,9 +34,10 @@ pub returns-then-starts_with : goal.returns-then-starts_with
 returns-then-starts_with c =
     let before = goal.at.returns-then-starts_with c in
     let parts = c.split_at.ensures in
+    let begun : starts_with eqb c.split_at.result.1.now mark ≡ true =
+    sym c.starts_with.ensures.value ∙ c.if-starts_with.true in
     let here : cut_at c.args.text.now (c.loop-next.from + c.in-Some.next) ≡ true =
-    asked before.After-ends_with
-    ∙ rw (c.if-ends_with.true, ← c.starts_with.ensures.value, c.if-starts_with.true) refl in
+    asked before.After-ends_with ∙ rw (c.if-ends_with.true, begun) refl in
     let first = first_cut c.args.text.now _ here (found before.In-Some) in
     rw (parts.front, parts.back) (sym first)
 
@@ -47,7 +48,9 @@ loop-next-preserved c =
     asked before.After-ends_with
     ∙ elim c.else-ends_with.branch [
       | else-ends_with-via-then-ends_with+else-starts_with w ↦
-          rw (← w.starts_with.ensures.value, w.if-starts_with.false) (and-false c.ends_with.result)
+          let other : starts_with eqb c.split_at.result.1.now mark ≡ false =
+          sym w.starts_with.ensures.value ∙ w.if-starts_with.false in
+          rw other (and-false c.ends_with.result)
       | else-ends_with-via-else-ends_with w ↦ rw w.if-ends_with.false refl
     ] in
     (one_more c.args.text.now _ (found before.In-Some) none, omega (arith, within before.In-Some))
