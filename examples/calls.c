@@ -2,6 +2,7 @@
 #include "scantling.h"
 
 #include <stdio.h>
+#include <string.h>
 
 /* Plates, two numbers each: nominal thickness and minus tolerance, hundredths of a mm. The first three have no minus, the
    others may be 0.30 mm thinner. Below them the bytes in which the calls take them. */
@@ -70,6 +71,16 @@ static unsigned long batch(uint32_t limit, uint32_t place)
     return (unsigned long)scantling_batch(book, sizeof book - 1, limit, reports, sizeof reports, place);
 }
 
+/* The book's summary from the line sum= on. A summary has no 0 at its end; one byte is kept for that. */
+static void print_excess(void)
+{
+    uint8_t summary[SCANTLING_LONGEST_SUMMARY + 1];
+    const size_t length = scantling_summary(book, sizeof book - 1, summary, sizeof summary - 1);
+
+    summary[length] = 0;
+    printf("plate less total over its accepted sheets:%s", strstr((const char *)summary, "\nsum="));
+}
+
 int main(void)
 {
     static const uint8_t text[] = "part=end\nform=a\n"; /* a sheet that ends too soon */
@@ -94,6 +105,7 @@ int main(void)
     printf("book: the first 2 sheets have reports of %lu bytes, all %lu sheets these:\n",
            batch(2, SCANTLING_BATCH_LENGTH), batch(SCANTLING_MOST_SHEETS, SCANTLING_BATCH_COUNT));
     fwrite(reports, 1, batch(SCANTLING_MOST_SHEETS, SCANTLING_BATCH_LENGTH), stdout);
+    print_excess();
     printf("least root of 5000: %lu\n", (unsigned long)scantling_least_root(5000));
     return 0;
 }

@@ -1,7 +1,7 @@
 /*
  * Program `bench`: how much the archive does in a second beside the separate program, and for the least root beside
- * floating point; and how long it takes for a sheet of a book beside the same sheets one by one. Every round measures
- * all works in turn; the medians of the rounds are printed. The sums of all sides must agree.
+ * floating point; and how long it takes for a sheet of a book, beside the same sheets one by one, and of a summary.
+ * Every round measures all works in turn; the medians of the rounds are printed. The sums of all sides must agree.
  */
 #define _POSIX_C_SOURCE 199309L
 
@@ -93,6 +93,7 @@ struct pass {
     size_t count;                             /* of what a pass works */
     const struct input *inputs;               /* of calls and sheets */
     enum part part;                           /* of calls */
+    /* a sheet's report, or a book's summary */
     size_t (*sheet)(const uint8_t *text, size_t length, uint8_t *out, size_t out_length);
     const uint64_t *numbers;                  /* of roots */
     uint64_t (*root)(uint64_t n);
@@ -189,6 +190,17 @@ static uint64_t one_by_one(const struct pass *pass)
     return sum;
 }
 
+/* Length and last digit of the summaries. */
+static uint64_t summaries(const struct pass *pass)
+{
+    uint64_t sum = 0;
+    for (size_t i = 0; i < BOOK_INPUTS; i += pass->sheets)
+        sum += book_sum(pass->sheet(
+            all_sheets + sheet_starts[i], sheet_starts[i + pass->sheets] - sheet_starts[i], book_space,
+            sizeof book_space));
+    return sum;
+}
+
 /* ---- Roots ---- */
 
 static uint64_t roots(const struct pass *pass)
@@ -219,7 +231,7 @@ static uint64_t float_root(uint64_t n)
 
 struct work {
     const char *name;
-    /* archive, separate program, floating point if any; of books archive, one by one, separate program */
+    /* archive, separate program, floating point if any; of books archive, one by one if any, separate program */
     struct pass passes[3];
 };
 
@@ -237,6 +249,10 @@ struct work {
     {{.run = archive_books, .count = BOOK_INPUTS, .sheets = of}, \
      {.run = one_by_one, .count = BOOK_INPUTS, .sheets = of},    \
      {.run = separate_books, .count = BOOK_INPUTS, .sheets = of}}
+#define SUMMARIES(of)                                                                    \
+    {{.run = summaries, .count = BOOK_INPUTS, .sheets = of, .sheet = scantling_summary}, \
+     {.run = NULL},                                                                      \
+     {.run = summaries, .count = BOOK_INPUTS, .sheets = of, .sheet = paper_summary}}
 
 static const struct work works[] = {
     {"endplate calls", CALLS(PART_END)},
@@ -251,6 +267,7 @@ static const struct work works[] = {
     {"16 sheets in a book", BOOKS(16)},
     {"32 sheets in a book", BOOKS(32)},
     {"64 sheets in a book", BOOKS(64)},
+    {"64 sheets in a summary", SUMMARIES(64)},
 };
 #define WORKS (sizeof works / sizeof works[0])
 #define FIRST_BOOKS 8 /* of the works */
@@ -331,9 +348,12 @@ static double nanoseconds(const double *values)
 /* Ratios of the times: of a book to its sheets one by one, and to the separate program's. */
 static void print_books(size_t i)
 {
-    printf("%-28s %14.0f %14.0f %8.3f %14.0f %8.2f\n", works[i].name, nanoseconds(rates[i][0]),
-           nanoseconds(rates[i][1]), median_ratio(rates[i][1], rates[i][0]), nanoseconds(rates[i][2]),
-           median_ratio(rates[i][2], rates[i][0]));
+    printf("%-28s %14.0f", works[i].name, nanoseconds(rates[i][0]));
+    if (works[i].passes[1].run != NULL)
+        printf(" %14.0f %8.3f", nanoseconds(rates[i][1]), median_ratio(rates[i][1], rates[i][0]));
+    else
+        printf(" %14s %8s", "", "");
+    printf(" %14.0f %8.2f\n", nanoseconds(rates[i][2]), median_ratio(rates[i][2], rates[i][0]));
 }
 
 int main(void)
@@ -345,7 +365,7 @@ int main(void)
     printf("%-28s %14s %14s %8s %14s %8s\n", "work", "archive", "separate", "ratio", "sqrt", "ratio");
     for (size_t i = 0; i < FIRST_BOOKS; i++)
         print_work(i);
-    printf("nanoseconds a sheet; ratios are book to the other\n");
+    printf("nanoseconds a sheet; ratios are book or summary to the other\n");
     printf("%-28s %14s %14s %8s %14s %8s\n", "work", "book", "one by one", "ratio", "separate", "ratio");
     for (size_t i = FIRST_BOOKS; i < WORKS; i++)
         print_books(i);

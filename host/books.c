@@ -300,3 +300,38 @@ void draw_book(struct rng *rng, struct book *book)
     for (int more = rng_one_in(rng, 2); more; more = rng_one_in(rng, 3))
         damages[rng_below(rng, COUNT(damages))](rng, book);
 }
+
+/* ---- Books of one kind ---- */
+
+static int is_piece(const struct text *text)
+{
+    return has_key_and_end(text) && paper_piece(text->bytes, text->length) == text->length;
+}
+
+static int suits(enum book_kind kind, const struct text *text)
+{
+    uint8_t report[PAPER_REPORT_ROOM];
+    struct paper_answer answer;
+    if (!is_piece(text))
+        return 0;
+    paper_report(text->bytes, text->length, report, &answer);
+    if (kind == BOOK_REFUSED)
+        return answer.plate == NULL;
+    if (kind == BOOK_ACCEPTED)
+        return answer.plate != NULL;
+    return 1;
+}
+
+void draw_book_of(struct rng *rng, enum book_kind kind, struct book *book)
+{
+    static struct text text;
+    const uint32_t least = kind == BOOK_PAST_LIMIT ? PAPER_MOST_SHEETS + 1 : 1;
+    uint32_t left = rng_between(rng, least, kind == BOOK_ONE ? 1 : BOOK_SHEETS);
+    for (book->length = 0; left > 0;) {
+        draw_sheet(rng, &text);
+        if (!suits(kind, &text))
+            continue;
+        append_to_book(book, text.bytes, text.length);
+        left--;
+    }
+}

@@ -24,4 +24,8 @@ void append_to_book(struct book *book, const void *bytes, size_t length);
 /* Any book of 0 to BOOK_SHEETS sheets, each as draw_sheet has it or a few bytes; a part of the books is damaged. */
 void draw_book(struct rng *rng, struct book *book);
 
+/* A book of pieces that are all refused or all accepted, of one piece, or of more than PAPER_MOST_SHEETS. */
+enum book_kind { BOOK_REFUSED, BOOK_ACCEPTED, BOOK_ONE, BOOK_PAST_LIMIT, BOOK_KINDS };
+void draw_book_of(struct rng *rng, enum book_kind kind, struct book *book);
+
 #endif

@@ -1,6 +1,7 @@
 /*
  * Program `compare [NUMERIC_CALLS [SHEETS [SEED [BOOKS]]]]`: calls the archive as a drawing program would and compares
- * every answer with the separate calculation. Exits with 1 at the first difference.
+ * every answer with the separate calculation. Exits with 1 at the first difference, and if the books drawn never meet a
+ * kind of summary.
  */
 #include "compare.h"
 #include "known.h"
@@ -15,6 +16,7 @@
 #define LIMIT_ROUNDS 20 /* questions of each limit and step */
 #define THIN_ROUNDS 10000 /* thin blind flanges */
 #define ROOT_ROUNDS 1500 /* of each binary length: so many numbers, and so many squares with their neighbours */
+#define SUMMARY_SHARE 300 /* of so many books one more of each kind is drawn, for its summary alone */
 
 /* ---- Numbers to hold ---- */
 
@@ -206,15 +208,27 @@ static void compare_roots(struct compare *compare)
 
 static void compare_known_books(struct compare_books *compare)
 {
+    for (size_t number = 0; number < known_summary_count; number++)
+        compare_known_summary(&compare->summaries, &known_summaries[number]);
     for (size_t number = 0; number < known_book_count; number++)
         compare_known_book(compare, &known_books[number]);
 }
 
+static void compare_drawn_summaries(struct compare_summaries *compare, uint64_t most)
+{
+    for (enum book_kind kind = 0; kind < BOOK_KINDS; kind++)
+        for (uint64_t books = 0; books < most; books += SUMMARY_SHARE)
+            compare_drawn_summary(compare, kind);
+}
+
+/* The known summaries meet every kind. They are not counted, so that a kind that is never drawn is seen. */
 static void compare_all_books(struct compare_books *compare, uint64_t most)
 {
     compare_known_books(compare);
+    compare->summaries = (struct compare_summaries){.rng = compare->summaries.rng};
     while (compare->books < most)
         compare_drawn_book(compare);
+    compare_drawn_summaries(&compare->summaries, most);
 }
 
 /* ---- The program ---- */
@@ -301,6 +315,7 @@ int main(int argc, char **argv)
     compare.rng.state = argument(argc, argv, 3, 8532);
     const uint64_t most_books = argument(argc, argv, 4, 75000);
     books.rng = compare.rng;
+    books.summaries.rng = compare.rng;
     printf("seed %" PRIu64 "\n", compare.rng.state);
     fflush(stdout);
     compare_known(&compare);
@@ -315,6 +330,7 @@ int main(int argc, char **argv)
     fflush(stdout);
     compare_all_books(&books, most_books);
     print_books(&books);
+    print_summaries(&books.summaries);
     printf("no difference\n");
     return 0;
 }

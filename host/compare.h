@@ -5,6 +5,11 @@
 #include "archive.h"
 #include "books.h"
 
+struct known_book;
+struct known_summary;
+
+#define GUARD 32 /* bytes on either side of a space that is lent */
+
 /* Accepted answers judged by the exact inequalities. */
 struct accuracy_counts {
     uint64_t checks;
@@ -70,9 +75,60 @@ uint64_t report_figure(const uint8_t *report, size_t length, const char *key);
 
 void print_bytes(const char *name, const uint8_t *bytes, size_t length);
 
+/* A book, cut by the separate program, and its answers to the first pieces, PAPER_MOST_SHEETS at most. */
+struct cut_book {
+    const uint8_t *bytes;
+    size_t length;
+    uint8_t *text; /* the same in a block of exactly this length, or of one byte if there are none */
+    uint32_t pieces;
+    size_t starts[PAPER_MOST_SHEETS + 1];        /* of the first pieces, and where the last of them ends */
+    size_t report_starts[PAPER_MOST_SHEETS + 1]; /* likewise of their reports */
+    struct paper_answer answers[PAPER_MOST_SHEETS];
+};
+
+/* The text is to be freed. */
+void open_book(const struct book *from, struct cut_book *book);
+
+/* How many pieces have an answer. */
+uint32_t first_pieces(const struct cut_book *book);
+
+/* The first pieces, of more than so many, and past them nothing or any bytes after part=. Returns a text that is to be
+   freed. */
+uint8_t *draw_other_end(struct rng *rng, const struct cut_book *book, uint32_t pieces, size_t *length);
+
+/* What a summary and a call for it can be, a call from SUMMARY_SPACE_AMPLE on. compare_summaries.c has the names. */
+enum summary_kind {
+    SUMMARY_MIXED, SUMMARY_ALL_ACCEPTED, SUMMARY_NOTHING_ACCEPTED, SUMMARY_ONE_PIECE, SUMMARY_AT_LIMIT,
+    SUMMARY_PAST_LIMIT, SUMMARY_ACCEPTED_PAST_LIMIT, SUMMARY_OTHER_END, SUMMARY_EXACT_PLATE, SUMMARY_MINUS,
+    SUMMARY_SPACE_AMPLE, SUMMARY_SPACE_ABOVE, SUMMARY_SPACE_AT, SUMMARY_SPACE_BELOW, SUMMARY_SPACE_SHORT,
+    SUMMARY_SPACE_NONE, SUMMARY_NULL_SPACE, SUMMARY_NULL_TEXT, SUMMARY_KINDS
+};
+
+/* Summaries, with random numbers of their own. */
+struct compare_summaries {
+    struct rng rng;
+    uint64_t summaries;
+    uint64_t calls;
+    uint64_t alone;                /* pieces that were answered by themselves too */
+    uint64_t kinds[SUMMARY_KINDS];
+    uint64_t causes[CAUSES];       /* summaries with a piece refused under each */
+};
+
+/* A book's summary in some spaces; against the archive's own reports of the pieces. */
+void compare_summary(struct compare_summaries *compare, const struct cut_book *book);
+
+/* In every space up to some more than the summary. */
+void compare_known_summary(struct compare_summaries *compare, const struct known_summary *known);
+
+void compare_drawn_summary(struct compare_summaries *compare, enum book_kind kind);
+
+/* Ends the program if many summaries never meet a kind, or a cause of a piece. */
+void print_summaries(const struct compare_summaries *compare);
+
 /* Books, with random numbers of their own. */
 struct compare_books {
     struct rng rng;
+    struct compare_summaries summaries; /* of these books and others */
     uint64_t books;
     uint64_t pieces;           /* of all books */
     uint64_t past_limit;       /* books of more than PAPER_MOST_SHEETS pieces */
@@ -91,7 +147,6 @@ struct compare_books {
 void compare_drawn_book(struct compare_books *compare);
 
 /* With every limit about its number of pieces and about the ends, and every space up to some more than its reports. */
-struct known_book;
 void compare_known_book(struct compare_books *compare, const struct known_book *known);
 
 #endif

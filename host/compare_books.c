@@ -8,22 +8,10 @@
 #include <stdlib.h>
 #include <string.h>
 
-#define GUARD 32 /* bytes on either side of the space that is lent */
 #define MOST_LENT (SCANTLING_LONGEST_BATCH + 64)
 
 static uint8_t area[GUARD + MOST_LENT + GUARD]; /* the space that the archive is lent, and the bytes about it */
 static uint8_t reports[MOST_LENT];              /* what the separate program wrote */
-
-/* A book, cut by the separate program, and its answers to the first pieces, PAPER_MOST_SHEETS at most. */
-struct cut_book {
-    const uint8_t *bytes;
-    size_t length;
-    uint8_t *text; /* the same in a block of exactly this length, or of one byte if there are none */
-    uint32_t pieces;
-    size_t starts[PAPER_MOST_SHEETS + 1];        /* of the first pieces, and where the last of them ends */
-    size_t report_starts[PAPER_MOST_SHEETS + 1]; /* likewise of their reports */
-    struct paper_answer answers[PAPER_MOST_SHEETS];
-};
 
 /* What is asked of a book, and the separate program's answer; its reports stand in `reports`. */
 struct asking {
@@ -36,7 +24,7 @@ struct asking {
 
 /* ---- A book and its pieces ---- */
 
-static uint32_t first_pieces(const struct cut_book *book)
+uint32_t first_pieces(const struct cut_book *book)
 {
     return book->pieces < PAPER_MOST_SHEETS ? book->pieces : PAPER_MOST_SHEETS;
 }
@@ -65,7 +53,7 @@ static void cut_pieces(struct cut_book *book)
     } while (start < book->length);
 }
 
-static void open_book(const struct book *from, struct cut_book *book)
+void open_book(const struct book *from, struct cut_book *book)
 {
     book->bytes = from->bytes;
     book->length = from->length;
@@ -211,22 +199,28 @@ static void compare_pieces(struct compare_books *compare, const struct cut_book 
         compare_piece(compare, book, i);
 }
 
-/* What stands past the limit does not matter: nothing may be there, or any bytes after part=. */
+uint8_t *draw_other_end(struct rng *rng, const struct cut_book *book, uint32_t pieces, size_t *length)
+{
+    const size_t kept = book->starts[pieces];
+    const size_t over = rng_one_in(rng, 2) ? KEY_LENGTH + rng_below(rng, 64) : 0;
+    uint8_t *text = malloc(kept + over);
+    if (text == NULL)
+        exit(2);
+    memcpy(text, book->bytes, kept);
+    rng_fill(rng, text + kept, over);
+    memcpy(text + kept, FIRST_KEY, over == 0 ? 0 : KEY_LENGTH);
+    *length = kept + over;
+    return text;
+}
+
+/* What stands past the limit does not matter. */
 static void compare_other_end(struct compare_books *compare, const struct cut_book *book, const struct asking *asking)
 {
     if (asking->limit < 1 || asking->limit > PAPER_MOST_SHEETS || asking->limit >= book->pieces)
         return;
     struct asking other = *asking;
-    const size_t kept = book->starts[asking->limit];
-    const size_t over = rng_one_in(&compare->rng, 2) ? KEY_LENGTH + rng_below(&compare->rng, 64) : 0;
-    uint8_t *text = malloc(kept + over);
-    if (text == NULL)
-        exit(2);
-    memcpy(text, book->bytes, kept);
-    rng_fill(&compare->rng, text + kept, over);
-    memcpy(text + kept, FIRST_KEY, over == 0 ? 0 : KEY_LENGTH);
+    uint8_t *text = draw_other_end(&compare->rng, book, asking->limit, &other.length);
     other.text = text;
-    other.length = kept + over;
     compare_place(compare, &other, draw_place(&compare->rng));
     compare->other_ends++;
     free(text);
@@ -331,6 +325,7 @@ static void compare_book(struct compare_books *compare)
     compare_places(compare, &asked);
     compare_pieces(compare, &cut, &asked);
     compare_other_end(compare, &cut, &asked);
+    compare_summary(&compare->summaries, &cut);
 }
 
 void compare_drawn_book(struct compare_books *compare)

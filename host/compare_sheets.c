@@ -6,7 +6,6 @@
 #include <stdlib.h>
 #include <string.h>
 
-#define GUARD 32 /* bytes on either side of the space that is lent */
 #define MOST_LENT 512
 
 /* A sheet in a block of exactly its length, and the separate program's answer to it. */

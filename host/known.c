@@ -85,13 +85,17 @@ void known_question(const struct known *known, struct question *question)
     give_plates(question, known->plates, KNOWN_PLATES);
 }
 
-#define END_SHEET(pressure, plates) \
-    "part=end\nform=c\nmaterial=1\nshell=1\ntemp=150\npressure=" pressure "\ndia=5000\nallow=0\nplates=" plates "\n"
+#define END_WITH(material, temperature, pressure, diameter, allowance, plates)                          \
+    "part=end\nform=c\nmaterial=" material "\nshell=1\ntemp=" temperature "\npressure=" pressure         \
+    "\ndia=" diameter "\nallow=" allowance "\nplates=" plates "\n"
+#define END_SHEET(pressure, plates) END_WITH("1", "150", pressure, "5000", "0", plates)
 #define END_REPORT(total, plate) "stress=108\nneed=" total "\ntotal=" total "\nplate=" plate "\n"
 
-#define PRINTED_SHEET                                                                                   \
-    "part=blind\nmaterial=1\ntemp=150\npressure=1000\nallow=100\nod=5000\nwidth=100\nrib=0\nribw=0\n"    \
-    "m=200\ny=110\ncircle=5600\nbolt=20\nroot=2250\ncount=16\nsa=100\nsb=100\nplates=2500,3200,4000\n"
+#define BLIND_WITH(width, rib, m, circle, bolt, root, sa)                                               \
+    "part=blind\nmaterial=1\ntemp=150\npressure=1000\nallow=100\nod=5000\nwidth=" width "\nrib=" rib    \
+    "\nribw=0\nm=" m "\ny=110\ncircle=" circle "\nbolt=" bolt "\nroot=" root "\ncount=16\nsa=" sa       \
+    "\nsb=100\nplates=2500,3200,4000\n"
+#define PRINTED_SHEET BLIND_WITH("100", "0", "200", "5600", "20", "2250", "100")
 #define PRINTED_REPORT                                                                                  \
     "stress=108\ncold=108\ng=4900\nb=500\nwm1=2192505\nwm2=846230\nw=2896253\nneed=3073\nedge=1913\n" \
     "total=3173\nplate=3200\n"
@@ -164,3 +168,85 @@ const struct known_book known_books[] = {
     {"part=end\rpart=end\rpart=end", 64, ROOM, {0, 0, 1, 18}, BAD_LINE("1")},
 };
 const size_t known_book_count = sizeof known_books / sizeof known_books[0];
+
+/* ---- Summaries ---- */
+
+/* A sheet refused by each cause, from 1 on; 17 is the last. */
+#define BY_1 "part=end\nform=a\n"
+#define BY_14 END_SHEET("1080", "none")
+#define BY_17 BLIND_WITH("100", "4900", "200", "5600", "20", "2250", "100")
+#define ONE_BY_EACH                                                                                     \
+    BY_1 END_WITH("7", "150", "1080", "5000", "0", "4000") END_SHEET("0", "4000")                        \
+    END_WITH("1", "301", "1080", "5000", "0", "4000") END_WITH("6", "201", "1080", "5000", "0", "4000")  \
+    END_WITH("1", "150", "1080", "499", "0", "4000") END_WITH("1", "150", "1080", "5000", "1001", "4000") \
+    BLIND_WITH("99", "0", "200", "5600", "20", "2250", "100")                                           \
+    BLIND_WITH("100", "0", "651", "5600", "20", "2250", "100")                                          \
+    BLIND_WITH("100", "0", "200", "5600", "11", "2250", "100")                                          \
+    BLIND_WITH("100", "0", "200", "5600", "20", "2250", "0")                                            \
+    BLIND_WITH("100", "0", "200", "5199", "20", "2250", "100")                                          \
+    BLIND_WITH("100", "0", "200", "5600", "20", "1", "100") BY_14 BY_17
+
+/* Ends of the README, whose plate is 250 more than the total, and with the least total, 7, from one plate. */
+#define README_END                                                                                      \
+    "part=end\nform=c\nmaterial=1\nshell=2\ntemp=150\npressure=1000\ndia=5000\nallow=100\n"              \
+    "plates=2000,2500,3000\n"
+#define LEAST_END(plate)                                                                                \
+    "part=end\nform=a\nmaterial=5\nshell=0\ntemp=50\npressure=1\ndia=500\nallow=0\nplates=" plate "\n"
+
+#define COUNTS(pieces, accepted, refused, by_1, by_2_to_13, by_14, by_17)                               \
+    "pieces=" pieces "\naccepted=" accepted "\nrefused=" refused "\nrefused1=" by_1 "\n"                \
+    "refused2=" by_2_to_13 "\nrefused3=" by_2_to_13 "\nrefused4=" by_2_to_13 "\n"                      \
+    "refused5=" by_2_to_13 "\nrefused6=" by_2_to_13 "\nrefused7=" by_2_to_13 "\n"                      \
+    "refused8=" by_2_to_13 "\nrefused9=" by_2_to_13 "\nrefused10=" by_2_to_13 "\n"                     \
+    "refused11=" by_2_to_13 "\nrefused12=" by_2_to_13 "\nrefused13=" by_2_to_13 "\n"                   \
+    "refused14=" by_14 "\nrefused17=" by_17 "\n"
+#define NOTHING "sum=0\n"
+#define EXCESS(sum, least, greatest) "sum=" sum "\nleast=" least "\ngreatest=" greatest "\n"
+
+/* All accepted, or all refused by 1. */
+#define ALL_ACCEPTED(pieces) COUNTS(pieces, pieces, "0", "0", "0", "0", "0")
+#define ALL_REFUSED(pieces) COUNTS(pieces, "0", pieces, pieces, "0", "0", "0") NOTHING
+
+/* The plate of the printed flange is 27 more than its total. */
+const struct known_summary known_summaries[] = {
+    {"", "", 0, "", ALL_REFUSED("1")},
+    {"part=", "", 0, "", ALL_REFUSED("1")},
+    {"\npart=", "", 0, "", ALL_REFUSED("2")},
+    {README_END, "", 0, "", ALL_ACCEPTED("1") EXCESS("250", "250", "250")},
+    {PRINTED_SHEET, "", 0, "", ALL_ACCEPTED("1") EXCESS("27", "27", "27")},
+    {ONE_END, "", 0, "", ALL_ACCEPTED("1") EXCESS("0", "0", "0")},
+    {END_SHEET("1080", ""), "", 0, "", ALL_ACCEPTED("1") EXCESS("500", "500", "500")},
+    {END_SHEET("1080", "2530:30"), "", 0, "", ALL_ACCEPTED("1") EXCESS("30", "30", "30")},
+    {END_SHEET("1080", "2800:300,2790"), "", 0, "", ALL_ACCEPTED("1") EXCESS("290", "290", "290")},
+    {BY_14, "", 0, "", COUNTS("1", "0", "1", "0", "0", "1", "0") NOTHING},
+    {BY_17, "", 0, "", COUNTS("1", "0", "1", "0", "0", "0", "1") NOTHING},
+    {BY_1 BY_14 BY_17, "", 0, "", COUNTS("3", "0", "3", "1", "0", "1", "1") NOTHING},
+    {ONE_BY_EACH, "", 0, "", COUNTS("15", "0", "15", "1", "1", "1", "1") NOTHING},
+    {ONE_END ONE_BY_EACH PRINTED_SHEET, "", 0, "",
+     COUNTS("17", "2", "15", "1", "1", "1", "1") EXCESS("27", "0", "27")},
+    {README_END BY_14 PRINTED_SHEET BY_17, "", 0, "",
+     COUNTS("4", "2", "2", "0", "0", "1", "1") EXCESS("277", "27", "250")},
+    {BY_17 PRINTED_SHEET BY_14 README_END, "", 0, "",
+     COUNTS("4", "2", "2", "0", "0", "1", "1") EXCESS("277", "27", "250")},
+    {README_END ONE_END PRINTED_SHEET, "", 0, "", ALL_ACCEPTED("3") EXCESS("277", "0", "250")},
+    {"Orders\n" README_END, "", 0, "", COUNTS("2", "1", "1", "1", "0", "0", "0") EXCESS("250", "250", "250")},
+    {README_END "part=", "", 0, "", COUNTS("2", "1", "1", "1", "0", "0", "0") EXCESS("250", "250", "250")},
+    {README_END "part", "", 0, "", ALL_REFUSED("1")},
+    {"", "part=x\n", 9, "", ALL_REFUSED("9")},
+    {"", "part=x\n", 10, "", ALL_REFUSED("10")},
+    {"", "part=x\n", 63, "", ALL_REFUSED("63")},
+    {"", "part=x\n", 64, "", ALL_REFUSED("64")},
+    {"", "part=x\n", 65, "", ALL_REFUSED("64")},
+    {"", "part=x\n", 63, README_END, COUNTS("64", "1", "63", "63", "0", "0", "0") EXCESS("250", "250", "250")},
+    {"", "part=x\n", 64, README_END, ALL_REFUSED("64")},
+    {README_END, "part=x\n", 62, PRINTED_SHEET,
+     COUNTS("64", "2", "62", "62", "0", "0", "0") EXCESS("277", "27", "250")},
+    {README_END, "part=x\n", 63, PRINTED_SHEET,
+     COUNTS("64", "1", "63", "63", "0", "0", "0") EXCESS("250", "250", "250")},
+    {"", README_END, 63, PRINTED_SHEET, ALL_ACCEPTED("64") EXCESS("15777", "27", "250")},
+    {"", README_END, 64, PRINTED_SHEET, ALL_ACCEPTED("64") EXCESS("16000", "250", "250")},
+    {"", README_END, 64, BY_17, ALL_ACCEPTED("64") EXCESS("16000", "250", "250")},
+    {LEAST_END("7"), LEAST_END("999999"), 62, LEAST_END("8"), ALL_ACCEPTED("64") EXCESS("61999505", "0", "999992")},
+    {"", LEAST_END("999999"), 64, "", ALL_ACCEPTED("64") EXCESS("63999488", "999992", "999992")},
+};
+const size_t known_summary_count = sizeof known_summaries / sizeof known_summaries[0];

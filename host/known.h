@@ -37,4 +37,14 @@ struct known_book {
 extern const struct known_book known_books[];
 extern const size_t known_book_count;
 
+/* Books as pieces that come once and, between them, so many copies of one; and what is known of each, its summary. */
+struct known_summary {
+    const char *first, *again;
+    uint32_t copies;
+    const char *last;
+    const char *summary;
+};
+extern const struct known_summary known_summaries[];
+extern const size_t known_summary_count;
+
 #endif

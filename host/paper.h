@@ -136,7 +136,10 @@ size_t paper_report(const uint8_t *text, size_t length, uint8_t *report, struct 
 /* The same in a lent space, which is written only if the report fits it. */
 size_t paper_sheet(const uint8_t *text, size_t length, uint8_t *out, size_t out_length);
 
-#define PAPER_MOST_SHEETS 64 /* the greatest limit of a book */
+/* Adds the line of a key and a number to a text of this length. Returns the length with it. */
+size_t paper_put_line(uint8_t *text, size_t length, const char *key, uint64_t number);
+
+#define PAPER_MOST_SHEETS 64 /* the greatest limit of a book, and the most pieces that a summary counts */
 
 /* Places of a book's answer, from 2 on: the count of pieces worked, and the length written. */
 enum { BATCH_COUNT_PLACE = PLACE_REPORT, BATCH_LENGTH_PLACE, BATCH_PLACES };
@@ -149,5 +152,16 @@ size_t paper_piece(const uint8_t *text, size_t length);
 void paper_book(
     const uint8_t *text, size_t length, uint32_t limit, uint8_t *out, size_t out_length,
     uint64_t figures[BATCH_PLACES]);
+
+/* The causes that a sheet can be refused by, in rising order; a summary has a line for each. */
+extern const uint32_t paper_sheet_causes[];
+extern const size_t paper_sheet_cause_count;
+
+/* Bytes that no summary exceeds: room for the lines of 27 causes with numbers of 20 digits, 997 bytes. */
+#define PAPER_LONGEST_SUMMARY 1024
+
+/* The summary of a book's first PAPER_MOST_SHEETS pieces, or of all if there are fewer; out is written only if it fits
+   that. Returns its length. */
+size_t paper_summary(const uint8_t *text, size_t length, uint8_t *out, size_t out_length);
 
 #endif

@@ -171,21 +171,21 @@ static uint32_t read_sheet(struct span text, struct paper_answer *answer)
 
 /* ---- The report ---- */
 
-static size_t put_number(uint8_t *report, size_t length, uint64_t number)
+static size_t put_number(uint8_t *text, size_t length, uint64_t number)
 {
     if (number >= 10)
-        length = put_number(report, length, number / 10);
-    report[length] = (uint8_t)('0' + number % 10);
+        length = put_number(text, length, number / 10);
+    text[length] = (uint8_t)('0' + number % 10);
     return length + 1;
 }
 
-static size_t put_line(uint8_t *report, size_t length, const char *key, uint64_t number)
+size_t paper_put_line(uint8_t *text, size_t length, const char *key, uint64_t number)
 {
-    memcpy(report + length, key, strlen(key));
+    memcpy(text + length, key, strlen(key));
     length += strlen(key);
-    report[length++] = '=';
-    length = put_number(report, length, number);
-    report[length++] = '\n';
+    text[length++] = '=';
+    length = put_number(text, length, number);
+    text[length++] = '\n';
     return length;
 }
 
@@ -196,7 +196,7 @@ static size_t put_report(const struct paper_answer *answer, uint8_t *report)
     const uint32_t first = refused ? PLACE_CAUSE : PLACE_REPORT, last = refused ? PLACE_FIGURE : part->last_place;
     size_t length = 0;
     for (uint32_t place = first; place <= last; place++)
-        length = put_line(report, length, part->report_keys[place], answer->figures[place]);
+        length = paper_put_line(report, length, part->report_keys[place], answer->figures[place]);
     return length;
 }
 

@@ -17,6 +17,9 @@
  *     10 total plates... = the smallest plate that serves, as thickness:minus, or none
  *     11 LIMIT ROOM TEXT: a book in the signs of 3, with a limit and the length of the space lent
  *         = cause figure count length : an array of 512 dots of which ROOM were lent, LF shown as `/`
+ *     12 ROOM TEXT: a book in the signs of 3, and the length of the space lent for its summary
+ *         = cause figure length : an array of 512 dots of which ROOM were lent, LF shown as `/`; of a short space the
+ *           figure is the length needed, and the length 0
  */
 #include "vectors.h"
 
@@ -150,7 +153,7 @@ static void work_choice(const char *line, const struct kind *kind)
     printf(plate != NULL ? "\n" : " none\n");
 }
 
-static size_t decode(const char *signs, uint8_t text[VECTOR_LINE])
+size_t decode_signs(const char *signs, uint8_t text[VECTOR_LINE])
 {
     size_t length = 0;
     for (; signs[length] != '\0'; length++) {
@@ -187,7 +190,7 @@ static void work_sheet(const char *line, const struct kind *kind)
     struct paper_answer answer;
     const char *signs;
     const unsigned long room = read_before_text(line, line + 2, VECTOR_ROOM, &signs);
-    const size_t length = paper_report(text, decode(signs, text), report, &answer);
+    const size_t length = paper_report(text, decode_signs(signs, text), report, &answer);
     if (length > VECTOR_ROOM)
         give_up("a report longer than any space", line);
     memset(space, '.', sizeof space);
@@ -209,9 +212,25 @@ static void work_book(const char *line, const struct kind *kind)
     const uint32_t limit = (uint32_t)read_before_text(line, line + 3, UINT32_MAX, &signs);
     const unsigned long room = read_before_text(line, signs, VECTOR_BOOK_ROOM, &signs);
     memset(space, '.', sizeof space);
-    paper_book(text, decode(signs, text), limit, space, room, figures);
+    paper_book(text, decode_signs(signs, text), limit, space, room, figures);
     printf("%s =", line);
     print_figures(figures, BATCH_LENGTH_PLACE);
+    print_space(space, sizeof space);
+}
+
+static void work_summary(const char *line, const struct kind *kind)
+{
+    (void)kind;
+    static uint8_t text[VECTOR_LINE];
+    uint8_t space[VECTOR_BOOK_ROOM];
+    const char *signs;
+    const unsigned long room = read_before_text(line, line + 3, VECTOR_BOOK_ROOM, &signs);
+    memset(space, '.', sizeof space);
+    const unsigned long needed = paper_summary(text, decode_signs(signs, text), space, room);
+    if (needed > room)
+        printf("%s = %d %lu 0", line, CAUSE_SPACE, needed);
+    else
+        printf("%s = %d 0 %lu", line, CAUSE_NONE, needed);
     print_space(space, sizeof space);
 }
 
@@ -257,6 +276,7 @@ static const struct kind kinds[KINDS] = {
     [KIND_BLIND_FLANGE_STANDARD] = {.work = work_question, .part = PART_BLIND, .standard = 1},
     [KIND_SMALLEST_SERVING] = {.work = work_choice},
     [KIND_BOOK] = {.work = work_book},
+    [KIND_SUMMARY] = {.work = work_summary},
 };
 
 static void work_line(const char *line)

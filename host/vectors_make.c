@@ -1,5 +1,6 @@
-/* `vectors make`: the tables, roots and plates, then the calculations, then sheets and books; last, lists longer than
-   any other. */
+/* `vectors make`: the tables, roots and plates, then the calculations, then sheets, books and summaries; last, lists
+   longer than any other. */
+#include "books.h"
 #include "known.h"
 #include "limits.h"
 #include "vectors.h"
@@ -193,19 +194,27 @@ static void put_left_over(const struct question *question)
 }
 
 /* A byte that no line can hold is written as another of its sort. */
+static char sign_of(uint8_t byte)
+{
+    const char *own = memchr(vector_bytes, byte, VECTOR_SIGNS);
+    if (own != NULL)
+        return vector_signs[own - vector_bytes];
+    if (byte < 32 || byte > 126)
+        return byte < 32 ? '^' : '~';
+    return memchr(vector_signs, byte, VECTOR_SIGNS) == NULL ? (char)byte : '%';
+}
+
+static void put_signs(const uint8_t *bytes, size_t length)
+{
+    for (size_t i = 0; i < length; i++)
+        putchar(sign_of(bytes[i]));
+    printf("\n");
+}
+
 static void put_text(uint32_t room, const struct text *text)
 {
-    char line[VECTOR_TEXT + 1] = "";
-    for (size_t i = 0; i < text->length && i < VECTOR_TEXT; i++) {
-        const char *byte = memchr(vector_bytes, text->bytes[i], VECTOR_SIGNS);
-        if (byte != NULL)
-            line[i] = vector_signs[byte - vector_bytes];
-        else if (text->bytes[i] < 32 || text->bytes[i] > 126)
-            line[i] = text->bytes[i] < 32 ? '^' : '~';
-        else
-            line[i] = memchr(vector_signs, text->bytes[i], VECTOR_SIGNS) == NULL ? (char)text->bytes[i] : '%';
-    }
-    printf("%d %" PRIu32 " %s\n", (int)KIND_SHEET, room, line);
+    printf("%d %" PRIu32 " ", (int)KIND_SHEET, room);
+    put_signs(text->bytes, text->length < VECTOR_TEXT ? text->length : VECTOR_TEXT);
 }
 
 static void put_sheet(const struct question *question)
@@ -619,14 +628,20 @@ static void put_empty_books(void)
         put_book(asked[i][0], asked[i][1], "");
 }
 
-/* Lines of part= alone, with a report of 18 bytes each: 28 of these fit the space, and the figure of 15 tells how many
-   there are. */
-static void put_many_lines(uint32_t count, uint32_t limit)
+/* Lines of part= alone between these pieces. The next call writes over them. */
+static const char *lay_lines(const char *first, uint32_t count, const char *last)
 {
-    char signs[VECTOR_TEXT + 1] = "";
+    static char signs[2 * VECTOR_TEXT];
+    strcpy(signs, first);
     for (uint32_t i = 0; i < count; i++)
         strcat(signs, "part=/");
-    put_book(limit, VECTOR_BOOK_ROOM, signs);
+    return strcat(signs, last);
+}
+
+/* Such a line has a report of 18 bytes: 28 of these fit the space, and the figure of 15 tells how many there are. */
+static void put_many_lines(uint32_t count, uint32_t limit)
+{
+    put_book(limit, VECTOR_BOOK_ROOM, lay_lines("", count, ""));
 }
 
 static void put_books(void)
@@ -641,6 +656,84 @@ static void put_books(void)
     put_many_lines(65, 65);
     put_many_lines(65, 63);
     put_many_lines(65, 28);
+}
+
+/* ---- Summaries, likewise ---- */
+
+/* Plates 100 and 999992 more than the totals. */
+#define MINUS_SIGNS "part=end/form=c/material=1/shell=1/temp=150/pressure=1080/dia=5000/allow=0/plates=2600:30/"
+#define LEAST_SIGNS "part=end/form=a/material=5/shell=0/temp=50/pressure=1/dia=500/allow=0/plates=999999/"
+
+static void put_summary(uint32_t room, const char *signs)
+{
+    printf("%d %" PRIu32 " %s\n", (int)KIND_SUMMARY, room, signs);
+}
+
+/* Spaces about the length of the summary. */
+static void put_summary_rooms(const char *signs)
+{
+    static uint8_t text[VECTOR_LINE];
+    uint8_t summary[PAPER_LONGEST_SUMMARY];
+    const uint32_t length = (uint32_t)paper_summary(text, decode_signs(signs, text), summary, sizeof summary);
+    const uint32_t rooms[] = {0, 1, length - 1, length, length + 1};
+    for (size_t i = 0; i < COUNT(rooms); i++)
+        put_summary(rooms[i], signs);
+}
+
+static void put_summary_cuts(void)
+{
+    static const char *const books[] = {
+        "", "part=", "/part=", "part=/part=/", "part=/part/part=", "part=end part=end", END_SIGNS, MINUS_SIGNS,
+        BLIND_SIGNS, NO_PLATE_SIGNS, END_SIGNS BLIND_SIGNS, BLIND_SIGNS MINUS_SIGNS END_SIGNS, END_SIGNS "part=",
+        MINUS_SIGNS "x" END_SIGNS, MINUS_SIGNS "\\/" BLIND_SIGNS, "Orders/" MINUS_SIGNS, "~" MINUS_SIGNS "part=^",
+        BAD_SIGNS NO_PLATE_SIGNS BAD_SIGNS, MINUS_SIGNS BAD_SIGNS BLIND_SIGNS NO_PLATE_SIGNS,
+        LEAST_SIGNS LEAST_SIGNS LEAST_SIGNS LEAST_SIGNS LEAST_SIGNS LEAST_SIGNS LEAST_SIGNS LEAST_SIGNS LEAST_SIGNS
+            LEAST_SIGNS LEAST_SIGNS};
+    for (size_t i = 0; i < COUNT(books); i++)
+        put_summary(VECTOR_BOOK_ROOM, books[i]);
+}
+
+/* About the most pieces that are counted. */
+static void put_summary_lines(const char *first, uint32_t count, const char *last)
+{
+    put_summary(VECTOR_BOOK_ROOM, lay_lines(first, count, last));
+}
+
+/* One sheet refused by each cause, and one accepted. */
+static struct book one_by_each;
+
+static void put_first_of_cause(const struct question *question)
+{
+    static struct text text;
+    static int met[CAUSES];
+    uint8_t report[PAPER_REPORT_ROOM];
+    struct paper_answer answer;
+    write_sheet(question, &text);
+    paper_report(text.bytes, text.length, report, &answer);
+    if (met[answer.figures[PLACE_CAUSE]]++ > 0)
+        return;
+    append_to_book(&one_by_each, text.bytes, text.length);
+    printf("%d %d ", (int)KIND_SUMMARY, VECTOR_BOOK_ROOM);
+    put_signs(text.bytes, text.length);
+}
+
+static void put_summaries(void)
+{
+    put_summary_cuts();
+    put_summary_rooms("");
+    put_summary_rooms(MINUS_SIGNS BAD_SIGNS BLIND_SIGNS);
+    put_summary_lines("", 9, "");
+    put_summary_lines("", 10, "");
+    put_summary_lines("", 63, "");
+    put_summary_lines("", 64, "");
+    put_summary_lines("", 65, "");
+    put_summary_lines("", 63, MINUS_SIGNS);
+    put_summary_lines("", 64, MINUS_SIGNS);
+    put_summary_lines(MINUS_SIGNS, 62, BLIND_SIGNS);
+    put_summary_lines(MINUS_SIGNS, 63, BLIND_SIGNS);
+    put_causes(put_first_of_cause);
+    printf("%d %d ", (int)KIND_SUMMARY, VECTOR_BOOK_ROOM);
+    put_signs(one_by_each.bytes, one_by_each.length);
 }
 
 void make_vectors(void)
@@ -669,5 +762,6 @@ void make_vectors(void)
     put_thin(&rng, 30, put_question);
     put_sheets(&rng);
     put_books();
+    put_summaries();
     put_drawn(&rng, 6, 0, LONG_LIST, put_question);
 }

@@ -24,6 +24,11 @@
  *     uint64_t length = scantling_batch(
  *         book, book_length, SCANTLING_MOST_SHEETS, reports, sizeof reports, SCANTLING_BATCH_LENGTH);
  *     fwrite(reports, 1, (size_t)length, stdout);
+ *
+ * And its summary, how many of them are accepted and refused, in a space that no summary exceeds:
+ *
+ *     uint8_t summary[SCANTLING_LONGEST_SUMMARY];
+ *     fwrite(summary, 1, scantling_summary(book, book_length, summary, sizeof summary), stdout);
  */
 #ifndef SCANTLING_H
 #define SCANTLING_H
@@ -89,16 +94,21 @@ enum scantling_cause {
     SCANTLING_BAD_BOLT_CIRCLE = 12,
     SCANTLING_BOLTS_OVERLOADED = 13, /* the bolts do not carry the loads */
     SCANTLING_NO_PLATE = 14,         /* no plate of the list or stock serves; figure: the total, hundredths of a mm */
-    SCANTLING_SHORT_SPACE = 15,      /* of a book; figure: the length needed. Of a sheet scantling_sheet returns it */
-    SCANTLING_BAD_LIMIT = 16         /* of a book only: limit */
+    SCANTLING_SHORT_SPACE = 15,      /* of scantling_batch; figure: the length needed. scantling_sheet and
+                                        scantling_summary return that length, never 15 */
+    SCANTLING_BAD_LIMIT = 16         /* of scantling_batch only: limit */
 };
 
 /* No report is longer, in bytes. */
 #define SCANTLING_LONGEST_REPORT 319
 
-/* The greatest limit of a book, and a length in bytes that the reports of so many sheets do not exceed. */
+/* The greatest limit of a book and the most sheets of a summary, and a length in bytes that the reports of so many
+   sheets do not exceed. */
 #define SCANTLING_MOST_SHEETS 64
 #define SCANTLING_LONGEST_BATCH (SCANTLING_MOST_SHEETS * SCANTLING_LONGEST_REPORT)
+
+/* No summary is longer, in bytes. */
+#define SCANTLING_LONGEST_SUMMARY 1024
 
 /*
  * A plate in the bytes of a list: two uint32_t of four bytes each, lowest byte first, its thickness and then its mill minus
@@ -192,6 +202,28 @@ uint64_t scantling_batch(
     uint32_t limit,  /* sheets worked at most: 1 to 64 */
     uint8_t *out, size_t out_length,
     uint32_t place); /* of the number wanted: the cause, its figure, the count or the length; any other is 0 */
+
+/*
+ * Answers the length in bytes of the summary of the book in text. The book is cut as scantling_batch cuts it. Its first
+ * SCANTLING_MOST_SHEETS pieces are counted, or all if there are fewer, each as scantling_sheet answers it; a book of no
+ * bytes is one sheet, refused by 1. Where pieces is SCANTLING_MOST_SHEETS, nothing tells whether the book has more. The
+ * lines, each key=number and LF, in this order:
+ *
+ *     pieces                  sheets counted: 1 to SCANTLING_MOST_SHEETS
+ *     accepted, refused       of these; together they are the pieces
+ *     refused1 to refused14,  of the refused, those under each cause, shown even when there are none; together they are
+ *     refused17               the refused, for a sheet meets no other cause
+ *     sum                     of plate less total over the accepted sheets, hundredths of a mm; 0 if none is accepted
+ *     least, greatest         of plate less total over the accepted sheets, likewise; left out if none is accepted
+ *
+ * The plate is the thickness that the sheet's report names, without the minus. It is never below the total.
+ *
+ * If the length is not above out_length the summary stands in the first bytes of out, and the bytes past it are as they
+ * were. Otherwise the space is short (cause 15) and all of out is as it was: a space of SCANTLING_LONGEST_SUMMARY bytes
+ * never is. A text of any bytes is answered. text and out must not overlap; either may be null if its length is 0. The
+ * call takes some 4,600 bytes of stack.
+ */
+size_t scantling_summary(const uint8_t *text, size_t text_length, uint8_t *out, size_t out_length);
 
 /* The least r with r * r not below n, the root that thicknesses are worked with; for measuring. */
 uint64_t scantling_least_root(uint64_t n);

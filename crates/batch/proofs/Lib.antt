@@ -1,4 +1,7 @@
--- Laws that the proofs of the functions cite.
+-- Laws for callers (Laws), and what the proofs of the functions cite.
+pub mod Laws
 mod Cuts
 mod Gathered
 mod Numbers
+mod Spelled
+mod Tallied

@@ -9,7 +9,7 @@ use Rattle.batch.specs.declared.Outcome.TheVariants.{Reports, ShortSpace, BadLim
 
 -- ---- what is worked
 
--- the greatest limit
+-- the greatest limit, and the most pieces that a summary counts
 abbrev pub most_pieces : ℕ
 most_pieces = 64
 

@@ -3,3 +3,4 @@ pub mod Cut
 pub mod Counts
 pub mod Limit
 pub mod Stands
+pub mod Summary

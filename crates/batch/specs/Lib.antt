@@ -2,4 +2,6 @@
 pub mod Pieces
 pub mod Book
 pub mod Exact
+pub mod Summary
+pub mod Lines
 pub mod Laws

@@ -1,21 +1,29 @@
-// A book of sheets: its pieces, each answered as a sheet on its own, and their reports one after another.
+// A book of sheets: its pieces, each answered as a sheet on its own, and their reports one after another or one summary of
+// them.
 #![tactic(auto)]
 
+mod figures;
 mod gather;
 mod pieces;
+mod tally;
 
 ghost use Rattle.std.specs.Prelude.{◌≡◌, ◌≤◌, length};
 ghost use Rattle.batch.specs.Book.{longest_batch, numbers_for, numbers_of, reports_for, book_space};
 ghost use Rattle.batch.specs.Exact.{BookExact};
+ghost use Rattle.batch.specs.Summary.{longest_summary, summary_for, summary_numbers_for, summary_numbers_of, summary_space};
 
+use figures::spell;
 use gather::gather;
 pub use pieces::{Pieces, cut};
 
-// The greatest limit.
+// The greatest limit, and the most pieces that a summary counts.
 pub const MOST_PIECES: u32 = 64;
 
 // The reports of so many pieces are never longer together.
 pub const LONGEST: usize = MOST_PIECES as usize * report::LONGEST;
+
+// No summary is longer: there is room for the lines of 27 numbers.
+pub const LONGEST_SUMMARY: usize = 1024;
 
 // What became of a book. Nothing is written but in the first case.
 #[derive(Clone, Copy)]
@@ -60,4 +68,25 @@ pub fn answer(text: &[u8], limit: u32, out: &mut [u8]) -> Outcome
     }
     out[..length].copy_from_slice(&reports[..length]);
     Outcome::Reports { count, length }
+}
+
+// Cause 15: the space is shorter than the summary, whose length is the figure. Nothing is written.
+#[derive(Clone, Copy, Debug, PartialEq, Eq)]
+pub struct ShortSpace {
+    pub length: usize,
+}
+
+// Summarises the first 64 pieces of the book in `text`, or all if there are fewer, at the front of `out`: the length written.
+pub fn summary(text: &[u8], out: &mut [u8]) -> Result<usize, ShortSpace>
+    ensures numbers { summary_numbers_of result ≡ summary_numbers_for text.now out.old }
+    ensures content { out.new ≡ summary_space text.now out.old }
+    ensures short { length (summary_for text.now) ≤ longest_summary }
+{
+    let lines = spell(text);
+    let length = lines.len();
+    if length > out.len() {
+        return Err(ShortSpace { length });
+    }
+    out[..length].copy_from_slice(&lines);
+    Ok(length)
 }

@@ -12,6 +12,7 @@ ghost use Rattle.sheet.specs.Outcome.{length_for, space_of};
 ghost use Rattle.sheet.specs.Exact.{SheetExact};
 ghost use Rattle.batch.specs.Book.{book_space, longest_batch, numbers_for, reports_for};
 ghost use Rattle.batch.specs.Exact.{BookExact};
+ghost use Rattle.batch.specs.Summary.{longest_summary, summary_for, summary_space};
 ghost use Rattle.capi.specs.Call.{endplate_call, blind_flange_call};
 ghost use Rattle.capi.specs.Places.{figure_at, EndplateFigureExact, BlindFlangeFigureExact};
 
@@ -198,6 +199,17 @@ pub extern "C" fn scantling_batch(text: &[u8], limit: u32, out: &mut [u8], place
     ensures short { length (reports_for text.now limit) ≤ longest_batch }
 {
     capi::scantling_batch(text, limit, out, place)
+}
+
+// Summarises the first pieces of the book in `text`: the length of the summary. It stands at the front of `out` if that is
+// long enough; otherwise `out` is as it was.
+#[unsafe(no_mangle)]
+pub extern "C" fn scantling_summary(text: &[u8], out: &mut [u8]) -> usize
+    ensures value { result ≡ length (summary_for text.now) }
+    ensures content { out.new ≡ summary_space text.now out.old }
+    ensures short { result ≤ longest_summary }
+{
+    capi::scantling_summary(text, out)
 }
 
 // The least root by itself, for measuring.

@@ -18,3 +18,4 @@ mod WithoutMinus
 mod WithoutColon
 mod MinusTolerance
 mod BookOfSheets
+mod SummaryOfBook

@@ -1,12 +1,12 @@
-// Runs the sheet reader on a text in a space of some length, filled with dots. Written are the cause, the figure, the
-// length, and the bytes of the whole array that the space is the front of, in signs.
-use crate::signs::{shown, text_in};
+// Runs the sheet reader in a space.
+use crate::spaces::in_space;
 use sheet::Outcome;
 use std::io;
 
-// The array's length.
+// The longest space.
 const ROOM: usize = 160;
 
+// The cause, the figure and the length.
 fn told(rt: &impl Print, outcome: Outcome) -> io::Result<()> {
     let (cause, figure, length) = match outcome {
         Outcome::Report { length } => (0, 0, length),
@@ -18,13 +18,10 @@ fn told(rt: &impl Print, outcome: Outcome) -> io::Result<()> {
 
 // The length of the space, and the text in signs.
 pub(crate) fn sheet(rt: &(impl Print + Alloc), numbers: &[u64], signs: &[u8]) -> io::Result<()> {
-    let room = match numbers {
-        [room, ..] if *room <= ROOM as u64 => *room as usize,
-        _ => return Ok(()),
+    let [room, ..] = numbers else {
+        return Ok(());
     };
-    let text = text_in(rt.alloc(), signs)?;
-    let mut space = [b'.'; ROOM];
-    told(rt, sheet::answer(&text, &mut space[..room]))?;
-    rt.print(" : ")?;
-    rt.write_all(&space.map(shown))
+    in_space::<ROOM, _>(rt, *room, signs, |text, space| {
+        told(rt, sheet::answer(text, space))
+    })
 }

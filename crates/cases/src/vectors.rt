@@ -2,7 +2,7 @@
 // given the numbers after that. Numbers that do not suit the kind have no answer.
 use crate::arithmetic::{design_stress, quotient, root, root_over};
 use crate::blind_flange::{blind_flange, blind_flange_standard};
-use crate::books::book;
+use crate::books::{book, summary};
 use crate::choice::smallest_serving;
 use crate::endplate::{endplate, endplate_standard};
 use crate::line::{read_numbers, text_after};
@@ -29,6 +29,7 @@ enum Kind {
     BlindFlangeStandard,
     SmallestServing,
     Book,
+    Summary,
 }
 
 // A number that names no kind.
@@ -57,6 +58,7 @@ impl TryFrom<u64> for Kind {
             9 => Ok(Kind::BlindFlangeStandard),
             10 => Ok(Kind::SmallestServing),
             11 => Ok(Kind::Book),
+            12 => Ok(Kind::Summary),
             _ => Err(NoSuchKind),
         }
     }
@@ -76,6 +78,7 @@ impl Kind {
             Kind::BlindFlangeStandard => blind_flange_standard(rt, numbers),
             Kind::SmallestServing => smallest_serving(rt, numbers),
             Kind::Book => book(rt, numbers, text_after(line, 2)),
+            Kind::Summary => summary(rt, numbers, text_after(line, 1)),
         }
     }
 }

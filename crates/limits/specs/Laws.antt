@@ -1,8 +1,8 @@
--- The first cause in checking order, for callers: found part by part, and what fails where there is none. Nothing here asks
--- the numbers to rise. Assumes nothing.
+-- The first cause in checking order, for callers: found part by part, one of those in the order, and what fails where there is
+-- none. Nothing here asks the numbers to rise. Assumes nothing.
 use Rattle.std.specs.Prelude.{◌≡◌, ◌≢◌, Bool, not, ◌||◌, ◌&&◌, ℕ, zero, suc, T, get_or}
 use Rattle.std.proofs.Math.Path.{refl}
-use Rattle.std.proofs.Common.{arith, sym, ap, subst, ◌∙◌, eqb-true, T_not}
+use Rattle.std.proofs.Common.{arith, sym, ap, subst, ◌∙◌, eqb-true, eq-eqb, T_not}
 use Rattle.std.proofs.Math.Bool.{true, false, cond, or_assoc, or-false}
 use mathlib.Mathlib.Data.Bool.Basic.{or-eq-false-eq-eq-false-and-eq-false}
 use mathlib.Core.List.Memᴰ
@@ -154,6 +154,29 @@ pub cause_fails :
     (j : ℕ) →
     get_or (tests_of cs number) j false ≡ false
 cause_fails cs e number m = (each false (tests_of cs number) (none_applies checking_order cs tt e number m)).1
+
+-- ---- where there is one
+
+-- what is the first of some numbers is one of them
+pub first_among : (ns : List ℕ) (cs : Causes) → eqb (first_of ns cs) 0 ≡ false → T (among (first_of ns cs) ns)
+unfolding first_of
+first_among [] cs e = absurd (eqb-false 0 0 e refl)
+first_among (n ∷ ns) cs e = by_test (any (tests_of cs n)) e (first_among ns cs)
+  where
+    itself : T (among n (n ∷ ns))
+    itself = rw (eq-eqb n n refl) tt
+
+    later : (k : ℕ) (same : Bool) → T (among k ns) → T (cond same true (among k ns))
+    later k true m = tt
+    later k false m = m
+
+    by_test :
+        (b : Bool) →
+        eqb (cond b n (first_of ns cs)) 0 ≡ false →
+        (eqb (first_of ns cs) 0 ≡ false → T (among (first_of ns cs) ns)) →
+        T (among (cond b n (first_of ns cs)) (n ∷ ns))
+    by_test true q rest = itself
+    by_test false q rest = later (first_of ns cs) (eqb n (first_of ns cs)) (rest q)
 
 -- ---- no row is passed over
 

@@ -1,4 +1,4 @@
-// The report of an answer, laid into lent space.
+// The report of an answer, laid into lent space, and a line of key and number for other texts.
 #![tactic(auto)]
 
 mod lines;
@@ -8,6 +8,7 @@ ghost use Rattle.rules.specs.Answer.{in_numbers};
 ghost use Rattle.report.specs.Report.{report_text, longest};
 ghost use Rattle.report.specs.Space.{laid};
 
+pub use lines::add_line;
 use lines::spell;
 use rules::Answer;
 

@@ -1,5 +1,5 @@
-// The text of a report: its lines, one after another.
-ghost use Rattle.std.specs.Prelude.{◌≡◌, ◌+◌, ◌≤◌, ◌++◌};
+// The text of a report: its lines, one after another; and a line for other texts.
+ghost use Rattle.std.specs.Prelude.{◌≡◌, ◌+◌, ◌≤◌, ◌++◌, cond, leb};
 ghost use Rattle.arrayvec.specs.ArrayVec.{array_vec_len};
 ghost use Rattle.rules.specs.Answer.{in_numbers};
 ghost use Rattle.report.specs.Decimal.{number_line};
@@ -13,8 +13,8 @@ use rules::{Answer, Size};
 type Text = ArrayVec<u8, LONGEST>;
 
 // Key, `=`, number, LF. The line has room, so no `unwrap` stops.
-fn put_line(text: &mut Text, key: &[u8], n: u64)
-    requires { array_vec_len text.old + line_room key.now ≤ longest }
+fn put_line<const N: usize>(text: &mut ArrayVec<u8, N>, key: &[u8], n: u64)
+    requires { array_vec_len text.old + line_room key.now ≤ N }
     ensures line { text.new.items ≡ text.old.items ++ number_line key.now n }
     ensures short { array_vec_len text.new ≤ array_vec_len text.old + line_room key.now }
 {
@@ -24,6 +24,21 @@ fn put_line(text: &mut Text, key: &[u8], n: u64)
     text.push(b'=');
     text.try_extend_from_slice(digits.as_bytes()).unwrap();
     text.push(b'\n');
+}
+
+// The same for texts that are not reports: a line is added if it has room whatever its number, and else the text stays as it
+// was. Answers whether it was added.
+pub fn add_line<const N: usize>(text: &mut ArrayVec<u8, N>, key: &[u8], n: u64) -> bool
+    ensures fits { result ≡ leb (array_vec_len text.old + line_room key.now) N }
+    ensures line { text.new.items ≡ cond result (text.old.items ++ number_line key.now n) text.old.items }
+    ensures short { array_vec_len text.new ≤ array_vec_len text.old + line_room key.now }
+{
+    // Key, `=`, at most 20 digits, LF.
+    let fits = key.len() + 22 <= text.remaining_capacity();
+    if fits {
+        put_line(text, key, n);
+    }
+    fits
 }
 
 // A line for each key and the number beside it.

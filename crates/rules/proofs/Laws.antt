@@ -1,4 +1,6 @@
--- Laws for callers: what an empty list answers, and that an answer is known by its numbers. Assumes nothing.
+-- Laws for callers: what an empty list answers, that an answer is known by its numbers, and what its plate and its cause are.
+-- Assumes nothing.
+pub mod PlateAndCause
 use Rattle.std.specs.Prelude.{List, [], ◌≡◌, refl, Result, Ok, Err}
 use Rattle.std.proofs.Common.{arith}
 use Rattle.plates.specs.Plates.{smallest_serving}

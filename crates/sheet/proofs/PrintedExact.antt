@@ -1,5 +1,4 @@
 -- Demand 3 of the report of an accepted answer: the numbers read out of it are the answer's. Assumes nothing.
-use Prim.Native.Nat.{ℕ}
 use mathlib.Core.List.{List}
 use mathlib.Core.Path.{refl}
 use Rattle.plates.specs.declared.Plate.{Plate}

@@ -56,7 +56,9 @@ fn named_part(text: &[u8]) -> Option<Part>
     }
 }
 
-pub(crate) fn answer_to(text: &[u8]) -> Answer
+// The answer to the sheet in `text`, before it is text itself. Inlined: handing an answer over takes 6 % of an endplate's sheet.
+#[inline(always)]
+pub fn answer_to(text: &[u8]) -> Answer
     ensures value { in_numbers result ≡ answer_of text.now }
     ensures numbers { let s = sheet_of text.now in
         let answer = in_numbers result in

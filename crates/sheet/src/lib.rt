@@ -11,7 +11,7 @@ ghost use Rattle.sheet.specs.Outcome.{in_numbers, outcome_of, space_of, cause_of
 ghost use Rattle.sheet.specs.Outcome.{cause_for, figure_for, length_for};
 ghost use Rattle.sheet.specs.Exact.{SheetExact};
 
-use answers::answer_to;
+pub use answers::answer_to;
 use rules::Refusal;
 
 // What became of a sheet; `length` is that of its report. Three cases and no Result: a refused sheet has its report written,

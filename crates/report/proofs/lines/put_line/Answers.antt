@@ -6,4 +6,4 @@ use Rattle.report.proofs.lines.put_line.Goals as goal
 
 pub returns-clause-line : goal.returns-clause-line
 unfolding number_line
-returns-clause-line c = search (rules, append_assoc, same_decimal c.args.n c.ranges.n.fits)
+returns-clause-line g c = search (rules, append_assoc, same_decimal c.args.n c.ranges.n.fits)

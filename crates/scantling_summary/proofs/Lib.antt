@@ -1,0 +1,2 @@
+-- Laws that the proof of `summary_of` cites.
+mod SummaryStands
