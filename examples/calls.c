@@ -10,7 +10,12 @@ static const uint32_t exact_numbers[] = {2500, 0, 3200, 0, 4000, 0};
 static const uint32_t mill_numbers[] = {2500, 30, 2520, 30, 2540, 30};
 static uint8_t plates[3 * SCANTLING_PLATE_BYTES], mill_plates[3 * SCANTLING_PLATE_BYTES];
 
-/* Packs the numbers of plates for the calls: four bytes each, lowest first. */
+/* Bolts M16, M20 and M24: diameters, mm, and root areas, tenths of mm2. */
+static const uint32_t diameter_numbers[] = {16, 20, 24};
+static const uint32_t area_numbers[] = {1440, 2250, 3240};
+static uint8_t diameters[3 * SCANTLING_BOLT_NUMBER_BYTES], areas[3 * SCANTLING_BOLT_NUMBER_BYTES];
+
+/* Packs the numbers of a list for the calls: four bytes each, lowest first. */
 static void pack(const uint32_t *from, size_t count, uint8_t *to)
 {
     size_t i;
@@ -30,6 +35,14 @@ static unsigned long blind_flange(uint32_t place)
 {
     return (unsigned long)scantling_blind_flange(
         1, 150, 1000, 100, 5000, 100, 0, 0, 200, 110, 5600, 20, 2250, 16, 100, 100, plates, sizeof plates, place);
+}
+
+/* The same flange with bolts of these sizes, the first that fit. */
+static unsigned long blind_flange_bolts(uint32_t place)
+{
+    return (unsigned long)scantling_blind_flange_bolts(
+        1, 150, 1000, 100, 5000, 100, 0, 0, 200, 110, 5600, 100, 100, diameters, sizeof diameters, areas, sizeof areas,
+        plates, sizeof plates, place);
 }
 
 /* The same end from plates with a minus. */
@@ -89,6 +102,8 @@ int main(void)
 
     pack(exact_numbers, sizeof exact_numbers / sizeof exact_numbers[0], plates);
     pack(mill_numbers, sizeof mill_numbers / sizeof mill_numbers[0], mill_plates);
+    pack(diameter_numbers, sizeof diameter_numbers / sizeof diameter_numbers[0], diameters);
+    pack(area_numbers, sizeof area_numbers / sizeof area_numbers[0], areas);
     if (endplate(SCANTLING_CAUSE) == SCANTLING_ACCEPTED)
         printf("endplate: thickness %lu, plate %lu\n", endplate(SCANTLING_ENDPLATE_THICKNESS),
                endplate(SCANTLING_ENDPLATE_PLATE));
@@ -97,6 +112,10 @@ int main(void)
                blind_flange(SCANTLING_BLIND_FLANGE_THICKNESS), blind_flange(SCANTLING_BLIND_FLANGE_EDGE_THICKNESS),
                blind_flange(SCANTLING_BLIND_FLANGE_PLATE), blind_flange(SCANTLING_BLIND_FLANGE_FLANGE_LOAD) / 10,
                blind_flange(SCANTLING_BLIND_FLANGE_FLANGE_LOAD) % 10);
+    if (blind_flange_bolts(SCANTLING_CAUSE) == SCANTLING_ACCEPTED)
+        printf("with bolts chosen: bolt %lu, root area %lu, count %lu, plate %lu\n",
+               blind_flange_bolts(SCANTLING_BLIND_FLANGE_BOLT), blind_flange_bolts(SCANTLING_BLIND_FLANGE_ROOT),
+               blind_flange_bolts(SCANTLING_BLIND_FLANGE_COUNT), blind_flange_bolts(SCANTLING_BLIND_FLANGE_PLATE));
     printf("from plates with a minus: endplate %lu\n", endplate_mill(SCANTLING_ENDPLATE_PLATE));
     printf("from the usual stock: endplate %lu, blind flange %lu\n", endplate_standard(SCANTLING_ENDPLATE_PLATE),
            blind_flange_standard(SCANTLING_BLIND_FLANGE_PLATE));

@@ -37,12 +37,26 @@ const struct archive_call archive_calls[PARTS] = {
     [PART_BLIND] = {"scantling_blind_flange", blind_flange, "scantling_blind_flange_standard", blind_flange_standard},
 };
 
+uint64_t archive_bolts(const uint32_t n[], const struct byte_list lists[BOLT_LISTS], uint32_t place)
+{
+    return scantling_blind_flange_bolts(
+        n[BLIND_MATERIAL], n[BLIND_TEMPERATURE], n[BLIND_PRESSURE], n[BLIND_ALLOWANCE], n[BLIND_OD], n[BLIND_WIDTH],
+        n[BLIND_RIB], n[BLIND_RIB_WIDTH], n[BLIND_M], n[BLIND_Y], n[BLIND_CIRCLE], n[BLIND_SA], n[BLIND_SB],
+        lists[LIST_DIAMETERS].bytes, lists[LIST_DIAMETERS].length, lists[LIST_AREAS].bytes, lists[LIST_AREAS].length,
+        lists[LIST_PLATES].bytes, lists[LIST_PLATES].length, place);
+}
+
+void pack_numbers(const uint32_t *numbers, size_t count, uint8_t *bytes)
+{
+    for (size_t i = 0; i < PAPER_NUMBER_BYTES * count; i++)
+        bytes[i] = (uint8_t)(numbers[i / PAPER_NUMBER_BYTES] >> 8 * (i % PAPER_NUMBER_BYTES));
+}
+
 void pack_plates(const struct paper_plate *plates, size_t count, uint8_t *bytes)
 {
-    for (size_t i = 0; i < PAPER_PLATE_BYTES * count; i++) {
-        const struct paper_plate *plate = &plates[i / PAPER_PLATE_BYTES];
-        const uint32_t number = i % PAPER_PLATE_BYTES < 4 ? plate->thickness : plate->under_tolerance;
-        bytes[i] = (uint8_t)(number >> 8 * (i % 4));
+    for (size_t i = 0; i < count; i++) {
+        const uint32_t numbers[] = {plates[i].thickness, plates[i].under_tolerance};
+        pack_numbers(numbers, 2, bytes + PAPER_PLATE_BYTES * i);
     }
 }
 
@@ -65,6 +79,9 @@ SAME(SCANTLING_BLIND_FLANGE_THICKNESS, BLIND_THICKNESS_PLACE)
 SAME(SCANTLING_BLIND_FLANGE_EDGE_THICKNESS, BLIND_EDGE_THICKNESS_PLACE)
 SAME(SCANTLING_BLIND_FLANGE_TOTAL, BLIND_TOTAL_PLACE)
 SAME(SCANTLING_BLIND_FLANGE_PLATE, BLIND_PLATE_PLACE)
+SAME(SCANTLING_BLIND_FLANGE_BOLT, BLIND_BOLT_PLACE)
+SAME(SCANTLING_BLIND_FLANGE_ROOT, BLIND_ROOT_PLACE)
+SAME(SCANTLING_BLIND_FLANGE_COUNT, BLIND_COUNT_PLACE)
 SAME(SCANTLING_BATCH_COUNT, BATCH_COUNT_PLACE)
 SAME(SCANTLING_BATCH_LENGTH, BATCH_LENGTH_PLACE)
 SAME(SCANTLING_ACCEPTED, CAUSE_NONE)
@@ -82,9 +99,12 @@ SAME(SCANTLING_BAD_BOLTS, CAUSE_BOLTS)
 SAME(SCANTLING_BAD_BOLT_STRESS, CAUSE_BOLT_STRESS)
 SAME(SCANTLING_BAD_BOLT_CIRCLE, CAUSE_CIRCLE)
 SAME(SCANTLING_BOLTS_OVERLOADED, CAUSE_OVERLOAD)
+SAME(SCANTLING_NO_BOLTS, CAUSE_NO_BOLTS)
 SAME(SCANTLING_NO_PLATE, CAUSE_PLATE)
 SAME(SCANTLING_SHORT_SPACE, CAUSE_SPACE)
 SAME(SCANTLING_BAD_LIMIT, CAUSE_LIMIT)
 SAME(SCANTLING_MOST_SHEETS, PAPER_MOST_SHEETS)
 SAME(SCANTLING_LONGEST_SUMMARY, PAPER_LONGEST_SUMMARY)
 SAME(SCANTLING_PLATE_BYTES, PAPER_PLATE_BYTES)
+SAME(SCANTLING_MOST_BOLT_SIZES, PAPER_MOST_SIZES)
+SAME(SCANTLING_BOLT_NUMBER_BYTES, PAPER_NUMBER_BYTES)

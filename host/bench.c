@@ -1,11 +1,13 @@
 /*
  * Program `bench`: how much the archive does in a second beside the separate program, and for the least root beside
- * floating point; and how long it takes for a sheet of a book, beside the same sheets one by one, and of a summary.
+ * floating point; and how long it takes where it chooses bolts, and for a sheet of a book, beside the same sheets one
+ * by one, and of a summary.
  * Every round measures all works in turn; the medians of the rounds are printed. The sums of all sides must agree.
  */
 #define _POSIX_C_SOURCE 199309L
 
 #include "archive.h"
+#include "bolts.h"
 #include "scantling.h"
 #include "sheets.h"
 
@@ -20,6 +22,7 @@
 #define SECONDS 0.18 /* of one measurement, at least */
 #define INPUTS 2000
 #define PLATES 8
+#define BOLT_INPUTS 400
 #define BOOK_INPUTS 1984 /* sheets: 31 books of 64; books of 8, 16 and 32 come out even */
 
 /* ---- Inputs, all of them accepted ---- */
@@ -31,6 +34,17 @@ struct input {
 };
 enum { EXACT, MINUS, MINUSES }; /* all plates without a minus, or all with one */
 static struct input inputs[PARTS][MINUSES][INPUTS];
+
+/* As many sizes as there may be, of which the first or the last is taken. */
+struct bolts_input {
+    uint32_t n[BLIND_NUMBERS];
+    uint8_t diameters[PAPER_NUMBER_BYTES * PAPER_MOST_SIZES], areas[PAPER_NUMBER_BYTES * PAPER_MOST_SIZES];
+    uint8_t plates[PAPER_PLATE_BYTES * PLATES];
+    struct byte_list lists[BOLT_LISTS];
+};
+enum { FIRST_TAKEN, LAST_TAKEN, TAKEN };
+static struct bolts_input bolts_inputs[TAKEN][BOLT_INPUTS];
+
 static uint64_t long_numbers[INPUTS], short_numbers[INPUTS];
 
 /* Sheets of both parts by turns, one after another. Any sheets in a row are a book. */
@@ -64,6 +78,34 @@ static void draw_input(struct rng *rng, enum part part, size_t number)
     keep_input(&question, 30, &inputs[part][MINUS][number]);
 }
 
+static void keep_bolts_input(const struct bolts_question *question, struct bolts_input *input)
+{
+    const struct byte_list lists[BOLT_LISTS] = {
+        [LIST_DIAMETERS] = {input->diameters, sizeof input->diameters},
+        [LIST_AREAS] = {input->areas, sizeof input->areas},
+        [LIST_PLATES] = {input->plates, sizeof input->plates}};
+    memcpy(input->n, question->flange.numbers, sizeof input->n);
+    memcpy(input->lists, lists, sizeof input->lists);
+    pack_numbers(question->diameters, PAPER_MOST_SIZES, input->diameters);
+    pack_numbers(question->areas, PAPER_MOST_SIZES, input->areas);
+    pack_plates(question->flange.plates, PLATES, input->plates);
+}
+
+static void draw_bolts_input(struct rng *rng, size_t taken, struct bolts_input *input)
+{
+    static struct bolts_question question;
+    const struct wish nothing = wish_nothing();
+    uint64_t figures[PAPER_PLACES];
+    do {
+        draw_numbers(rng, PART_BLIND, &nothing, &question.flange);
+        draw_sizes(rng, PAPER_MOST_SIZES, taken, &question);
+        draw_plates_for_bolts(rng, PLATES, PLATES, &question);
+        const struct paper_sizes sizes = question_sizes(&question);
+        paper_blind_flange_bolts(question.flange.numbers, &sizes, question.flange.plates, PLATES, figures);
+    } while (figures[PLACE_CAUSE] != CAUSE_NONE || size_taken(&question, figures) != taken);
+    keep_bolts_input(&question, input);
+}
+
 static void lay_sheets(void)
 {
     sheet_starts[0] = 0;
@@ -83,6 +125,10 @@ static void draw_inputs(void)
         long_numbers[i] = rng_of_length(&rng, rng_below(&rng, 65));
         short_numbers[i] = rng_of_length(&rng, 16 + rng_below(&rng, 19));
     }
+    for (size_t i = 0; i < BOLT_INPUTS; i++) {
+        draw_bolts_input(&rng, 0, &bolts_inputs[FIRST_TAKEN][i]);
+        draw_bolts_input(&rng, PAPER_MOST_SIZES - 1, &bolts_inputs[LAST_TAKEN][i]);
+    }
     lay_sheets();
 }
 
@@ -93,6 +139,7 @@ struct pass {
     size_t count;                             /* of what a pass works */
     const struct input *inputs;               /* of calls and sheets */
     enum part part;                           /* of calls */
+    const struct bolts_input *bolts;          /* of calls that choose the bolts */
     /* a sheet's report, or a book's summary */
     size_t (*sheet)(const uint8_t *text, size_t length, uint8_t *out, size_t out_length);
     const uint64_t *numbers;                  /* of roots */
@@ -122,6 +169,31 @@ static uint64_t separate_figures(const struct pass *pass)
         size_t count = paper_plates(input->plates, sizeof input->plates, plates, PLATES);
         paper_parts[pass->part].work(input->n, plates, count, figures);
         sum += figures[place];
+    }
+    return sum;
+}
+
+static uint64_t archive_bolts_figures(const struct pass *pass)
+{
+    uint64_t sum = 0;
+    for (size_t i = 0; i < BOLT_INPUTS; i++)
+        sum += archive_bolts(pass->bolts[i].n, pass->bolts[i].lists, BLIND_PLATE_PLACE);
+    return sum;
+}
+
+static uint64_t separate_bolts_figures(const struct pass *pass)
+{
+    uint64_t sum = 0, figures[PAPER_PLACES];
+    uint32_t diameters[PAPER_MOST_SIZES], areas[PAPER_MOST_SIZES];
+    struct paper_plate plates[PLATES];
+    for (size_t i = 0; i < BOLT_INPUTS; i++) {
+        const struct bolts_input *input = &pass->bolts[i];
+        const struct paper_sizes sizes = {
+            diameters, areas, paper_numbers(input->diameters, sizeof input->diameters, diameters, PAPER_MOST_SIZES),
+            paper_numbers(input->areas, sizeof input->areas, areas, PAPER_MOST_SIZES)};
+        const size_t count = paper_plates(input->plates, sizeof input->plates, plates, PLATES);
+        paper_blind_flange_bolts(input->n, &sizes, plates, count, figures);
+        sum += figures[BLIND_PLATE_PLACE];
     }
     return sum;
 }
@@ -238,6 +310,9 @@ struct work {
 #define CALLS(of)                                                                         \
     {{.run = archive_figures, .count = INPUTS, .inputs = inputs[of][EXACT], .part = of}, \
      {.run = separate_figures, .count = INPUTS, .inputs = inputs[of][EXACT], .part = of}}
+#define BOLTS(taken)                                                                     \
+    {{.run = archive_bolts_figures, .count = BOLT_INPUTS, .bolts = bolts_inputs[taken]}, \
+     {.run = separate_bolts_figures, .count = BOLT_INPUTS, .bolts = bolts_inputs[taken]}}
 #define SHEETS(of, minus)                                                                        \
     {{.run = reports, .count = INPUTS, .inputs = inputs[of][minus], .sheet = scantling_sheet}, \
      {.run = reports, .count = INPUTS, .inputs = inputs[of][minus], .sheet = paper_sheet}}
@@ -257,6 +332,8 @@ struct work {
 static const struct work works[] = {
     {"endplate calls", CALLS(PART_END)},
     {"blind flange calls", CALLS(PART_BLIND)},
+    {"16 bolt sizes, first taken", BOLTS(FIRST_TAKEN)},
+    {"16 bolt sizes, last taken", BOLTS(LAST_TAKEN)},
     {"endplate sheets", SHEETS(PART_END, EXACT)},
     {"blind flange sheets", SHEETS(PART_BLIND, EXACT)},
     {"endplate sheets, minus", SHEETS(PART_END, MINUS)},
@@ -270,7 +347,7 @@ static const struct work works[] = {
     {"64 sheets in a summary", SUMMARIES(64)},
 };
 #define WORKS (sizeof works / sizeof works[0])
-#define FIRST_BOOKS 8 /* of the works */
+#define FIRST_BOOKS 10 /* of the works */
 
 static double rates[WORKS][3][ROUNDS]; /* per second */
 volatile uint64_t bench_sink;          /* keeps the passes from being left out */
@@ -365,6 +442,9 @@ int main(void)
     printf("%-28s %14s %14s %8s %14s %8s\n", "work", "archive", "separate", "ratio", "sqrt", "ratio");
     for (size_t i = 0; i < FIRST_BOOKS; i++)
         print_work(i);
+    for (size_t i = 0; i < FIRST_BOOKS; i++)
+        if (works[i].passes[0].bolts != NULL)
+            printf("%s: %.0f nanoseconds a call\n", works[i].name, nanoseconds(rates[i][0]));
     printf("nanoseconds a sheet; ratios are book or summary to the other\n");
     printf("%-28s %14s %14s %8s %14s %8s\n", "work", "book", "one by one", "ratio", "separate", "ratio");
     for (size_t i = FIRST_BOOKS; i < WORKS; i++)

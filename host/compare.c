@@ -1,7 +1,7 @@
 /*
- * Program `compare [NUMERIC_CALLS [SHEETS [SEED [BOOKS]]]]`: calls the archive as a drawing program would and compares
- * every answer with the separate calculation. Exits with 1 at the first difference, and if the books drawn never meet a
- * kind of summary.
+ * Program `compare [NUMERIC_CALLS [SHEETS [SEED [BOOKS [SIZES]]]]]`: calls the archive as a drawing program would and
+ * compares every answer with the separate calculation; SIZES is how many lists of bolt sizes are drawn. Exits with 1 at
+ * the first difference, and if the books drawn never meet a kind of summary, or the lists a cause, a size or a count.
  */
 #include "compare.h"
 #include "known.h"
@@ -299,8 +299,8 @@ static uint64_t argument(int count, char **words, int number, uint64_t otherwise
     if (number >= count)
         return otherwise;
     uint64_t value = strtoull(words[number], &end, 10);
-    if (words[number][0] < '0' || words[number][0] > '9' || *end != '\0' || count > 5) {
-        fprintf(stderr, "usage: compare [NUMERIC_CALLS [SHEETS [SEED [BOOKS]]]]\n");
+    if (words[number][0] < '0' || words[number][0] > '9' || *end != '\0' || count > 6) {
+        fprintf(stderr, "usage: compare [NUMERIC_CALLS [SHEETS [SEED [BOOKS [SIZES]]]]]\n");
         exit(2);
     }
     return value;
@@ -310,12 +310,15 @@ int main(int argc, char **argv)
 {
     static struct compare compare;
     static struct compare_books books;
+    static struct compare_bolts bolts;
     const uint64_t calls = argument(argc, argv, 1, 1000000);
     const uint64_t sheets = argument(argc, argv, 2, 1000000);
     compare.rng.state = argument(argc, argv, 3, 8532);
     const uint64_t most_books = argument(argc, argv, 4, 75000);
+    const uint64_t most_sizes = argument(argc, argv, 5, 40000);
     books.rng = compare.rng;
     books.summaries.rng = compare.rng;
+    bolts.rng = compare.rng;
     printf("seed %" PRIu64 "\n", compare.rng.state);
     fflush(stdout);
     compare_known(&compare);
@@ -327,6 +330,9 @@ int main(int argc, char **argv)
     while (compare.sheets < sheets)
         compare_drawn_sheet(&compare);
     print_counts(&compare);
+    fflush(stdout);
+    compare_all_bolts(&bolts, most_sizes);
+    print_bolts(&bolts);
     fflush(stdout);
     compare_all_books(&books, most_books);
     print_books(&books);

@@ -143,6 +143,29 @@ struct compare_books {
     struct accuracy_counts accuracy;
 };
 
+/* Blind flanges whose bolts are chosen, with random numbers of their own. */
+struct compare_bolts {
+    struct rng rng;
+    uint64_t calls;                     /* of one place each, those by hand among them */
+    uint64_t by_hand;
+    uint64_t pitches;                   /* by hand: bolts with just enough pitch, and a tenth of a mm short */
+    uint64_t earlier;                   /* sizes and counts before the one taken, asked of the archive's blind flange */
+    struct accuracy_counts accuracy;
+    uint64_t null_lists;
+    uint64_t questions;                 /* drawn; of these: */
+    uint64_t causes[CAUSE_NO_BOLTS + 1];
+    uint64_t empty, too_many, unequal;  /* no size, more than PAPER_MOST_SIZES, one list longer than the other */
+    uint64_t over;                      /* bytes over in a list of sizes */
+    uint64_t sizes[PAPER_MOST_SIZES];   /* accepted, by the number of the size taken, */
+    uint64_t counts[PAPER_BOLT_COUNTS]; /* and by the count */
+};
+
+/* All by hand, and as many drawn; each by all places. */
+void compare_all_bolts(struct compare_bolts *compare, uint64_t most);
+
+/* Ends the program if many drawn ones never meet a cause, a size or a count. */
+void print_bolts(const struct compare_bolts *compare);
+
 /* A book with some limits and some spaces, by all places or one. */
 void compare_drawn_book(struct compare_books *compare);
 

@@ -124,6 +124,43 @@ void draw_any_limit(struct rng *rng, struct question *question)
     draw_limit(rng, limit, (int)rng_below(rng, 3) - 1, question);
 }
 
+/* ---- The order of causes ---- */
+
+static const uint32_t ill_numbers[PARTS][BLIND_NUMBERS] = {
+    [PART_END] =
+        {[END_FORM] = 9, [END_MATERIAL] = 0, [END_SHELL] = 12, [END_TEMPERATURE] = 301, [END_PRESSURE] = 0,
+         [END_DIAMETER] = 499, [END_ALLOWANCE] = 1001},
+    [PART_BLIND] =
+        {[BLIND_MATERIAL] = 7, [BLIND_TEMPERATURE] = 301, [BLIND_PRESSURE] = 2001, [BLIND_ALLOWANCE] = 1001,
+         [BLIND_OD] = 30001, [BLIND_WIDTH] = 501, [BLIND_RIB] = 40001, [BLIND_RIB_WIDTH] = 0, [BLIND_M] = 651,
+         [BLIND_Y] = 1801, [BLIND_CIRCLE] = 0, [BLIND_BOLT] = 77, [BLIND_ROOT] = 0, [BLIND_COUNT] = 101,
+         [BLIND_SA] = 0, [BLIND_SB] = 401},
+};
+
+struct mend {
+    int number;
+    uint32_t value;
+};
+static const struct mend end_mends[] = {
+    {END_FORM, FORM_C}, {END_MATERIAL, 6}, {END_SHELL, 1}, {END_PRESSURE, 1000}, {END_TEMPERATURE, 225},
+    {END_MATERIAL, 1}, {END_DIAMETER, 5000}, {END_ALLOWANCE, 100}};
+static const struct mend blind_mends[] = {
+    {BLIND_MATERIAL, 6}, {BLIND_PRESSURE, 1000}, {BLIND_TEMPERATURE, 225}, {BLIND_MATERIAL, 1}, {BLIND_OD, 5000},
+    {BLIND_ALLOWANCE, 100}, {BLIND_WIDTH, 100}, {BLIND_RIB, 4900}, {BLIND_RIB_WIDTH, 501}, {BLIND_RIB_WIDTH, 100},
+    {BLIND_M, 200}, {BLIND_Y, 110}, {BLIND_BOLT, 20}, {BLIND_ROOT, 1}, {BLIND_COUNT, 16}, {BLIND_SA, 100},
+    {BLIND_SB, 100}, {BLIND_CIRCLE, 5600}, {BLIND_ROOT, 2250}};
+static const struct mend *const mends[PARTS] = {[PART_END] = end_mends, [PART_BLIND] = blind_mends};
+const size_t mend_counts[PARTS] = {[PART_END] = COUNT(end_mends), [PART_BLIND] = COUNT(blind_mends)};
+
+void give_mended(enum part part, size_t mended, struct question *question)
+{
+    question->part = part;
+    give_plates(question, NULL, 0);
+    memcpy(question->numbers, ill_numbers[part], sizeof question->numbers);
+    for (size_t i = 0; i < mended; i++)
+        question->numbers[mends[part][i].number] = mends[part][i].value;
+}
+
 /* ---- Plates ---- */
 
 #define LARGEST ((int64_t)UINT32_MAX)

@@ -34,6 +34,10 @@ extern const size_t limit_count;
 void draw_limit(struct rng *rng, const struct limit *limit, int step, struct question *question);
 void draw_any_limit(struct rng *rng, struct question *question);
 
+/* The order of causes: numbers that meet many at once, of which so many are mended one after another; no plates. */
+extern const size_t mend_counts[PARTS];
+void give_mended(enum part part, size_t mended, struct question *question);
+
 /* A number counted from the total: so many times the total, and more. */
 struct from_total {
     int times;

@@ -108,8 +108,7 @@ static uint32_t carrying_root(u128 load, u128 count, u128 stress)
     return count * stress == 0 ? 1 : (uint32_t)paper_least_quotient(count * stress, load);
 }
 
-/* The least root area whose bolts carry both loads. */
-static uint32_t sufficient_root(const uint32_t *n)
+uint32_t sufficient_root(const uint32_t n[BLIND_NUMBERS])
 {
     const struct paper_gasket gasket = paper_gasket(n);
     uint32_t operating = carrying_root(gasket.operating_load, n[BLIND_COUNT], n[BLIND_SB]);

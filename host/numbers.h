@@ -31,6 +31,9 @@ uint32_t question_total(const struct question *question);
 /* Numbers that meet no cause before 13, wherever the wish leaves room for it. The plates stay as they were. */
 void draw_numbers(struct rng *rng, enum part part, const struct wish *wish, struct question *question);
 
+/* The least root area whose bolts carry both loads, from numbers that meet no cause before 10. */
+uint32_t sufficient_root(const uint32_t n[BLIND_NUMBERS]);
+
 /* A blind flange with need and edge of a few mm at most: a small cover, little pressure, bolts just strong enough. */
 void draw_thin_flange(struct rng *rng, struct question *question);
 

@@ -23,12 +23,13 @@ enum {
 /* Forms a, c, d of 8.3.4 as the numeric call names them. */
 enum { FORM_A = 1, FORM_C = 2, FORM_D = 3 };
 
-/* Causes of refusal; 16 is of a book alone. Counts by cause have CAUSES places, one more than the greatest. */
+/* Causes of refusal; 16 is of a book alone, 24 of bolts to be chosen. Counts by cause have CAUSES places, one more than
+   the greatest without 24. */
 enum {
     CAUSE_NONE = 0, CAUSE_LINE = 1, CAUSE_MATERIAL = 2, CAUSE_PRESSURE = 3, CAUSE_TEMPERATURE = 4,
     CAUSE_DESIGN_STRESS = 5, CAUSE_DIAMETER = 6, CAUSE_ALLOWANCE = 7, CAUSE_WIDTH = 8, CAUSE_GASKET = 9,
     CAUSE_BOLTS = 10, CAUSE_BOLT_STRESS = 11, CAUSE_CIRCLE = 12, CAUSE_OVERLOAD = 13, CAUSE_PLATE = 14,
-    CAUSE_SPACE = 15, CAUSE_LIMIT = 16, CAUSE_RIB = 17, CAUSES
+    CAUSE_SPACE = 15, CAUSE_LIMIT = 16, CAUSE_RIB = 17, CAUSES, CAUSE_NO_BOLTS = 24
 };
 
 /* Places of the figures. Those from 2 on stand in report order; a place without a figure holds 0. */
@@ -37,9 +38,10 @@ enum { END_DESIGN_STRESS_PLACE = PLACE_REPORT, END_THICKNESS_PLACE, END_TOTAL_PL
 enum {
     BLIND_DESIGN_STRESS_PLACE = PLACE_REPORT, BLIND_AMBIENT_STRESS_PLACE, BLIND_REACTION_DIAMETER_PLACE,
     BLIND_EFFECTIVE_WIDTH_PLACE, BLIND_OPERATING_LOAD_PLACE, BLIND_SEATING_LOAD_PLACE, BLIND_FLANGE_LOAD_PLACE,
-    BLIND_THICKNESS_PLACE, BLIND_EDGE_THICKNESS_PLACE, BLIND_TOTAL_PLACE, BLIND_PLATE_PLACE
+    BLIND_THICKNESS_PLACE, BLIND_EDGE_THICKNESS_PLACE, BLIND_TOTAL_PLACE, BLIND_PLATE_PLACE,
+    BLIND_BOLT_PLACE, BLIND_ROOT_PLACE, BLIND_COUNT_PLACE /* of bolts that were chosen */
 };
-enum { PAPER_PLACES = BLIND_PLATE_PLACE + 9 }; /* of the longer report, and some past it */
+enum { PAPER_PLACES = BLIND_COUNT_PLACE + 6 }; /* of the longer report and the bolts chosen, and some past them */
 
 #define PAPER_SHEET_PLATES 32
 #define PAPER_STANDARD_PLATES 13
@@ -96,6 +98,33 @@ const struct paper_plate *paper_blind_flange(
 
 /* The plates in bytes as the C interface takes them; at most room are written. Returns how many. */
 size_t paper_plates(const uint8_t *bytes, size_t length, struct paper_plate *plates, size_t room);
+
+#define PAPER_NUMBER_BYTES 4 /* of a diameter or a root area in C, the lowest byte first */
+
+/* Such numbers, likewise. */
+size_t paper_numbers(const uint8_t *bytes, size_t length, uint32_t *numbers, size_t room);
+
+#define PAPER_MOST_SIZES 16
+#define PAPER_LEAST_BOLTS 4 /* of a size, and by how many more the next is tried */
+#define PAPER_MOST_BOLTS 100
+#define PAPER_BOLT_COUNTS (PAPER_MOST_BOLTS / PAPER_LEAST_BOLTS) /* of a size */
+
+/* Bolt sizes: diameters and root areas, of which there may be another number. */
+struct paper_sizes {
+    const uint32_t *diameters, *areas; /* null where there are none */
+    size_t diameter_count, area_count;
+};
+
+/* As many areas as diameters, and 1 to PAPER_MOST_SIZES of them. */
+int paper_sizes_sound(const struct paper_sizes *sizes);
+
+/* 314 C >= 2500 bolt count. */
+int paper_pitch_enough(const uint32_t n[BLIND_NUMBERS]);
+
+/* A blind flange whose bolt, root and count are chosen: those of n are not read. Otherwise as paper_blind_flange. */
+const struct paper_plate *paper_blind_flange_bolts(
+    const uint32_t n[BLIND_NUMBERS], const struct paper_sizes *sizes, const struct paper_plate *plates, size_t count,
+    uint64_t figures[PAPER_PLACES]);
 
 /* The accuracy demand on the figures printed for accepted numbers: 1 if the exact inequalities judge them right. */
 int paper_endplate_exact(const uint32_t n[], const uint64_t figures[PAPER_PLACES]);

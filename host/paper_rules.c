@@ -207,6 +207,14 @@ size_t paper_plates(const uint8_t *bytes, size_t length, struct paper_plate *pla
     return count;
 }
 
+size_t paper_numbers(const uint8_t *bytes, size_t length, uint32_t *numbers, size_t room)
+{
+    size_t count = 0;
+    for (; count < length / PAPER_NUMBER_BYTES && count < room; count++)
+        numbers[count] = read_four(bytes + PAPER_NUMBER_BYTES * count);
+    return count;
+}
+
 /* ---- Causes 2 to 14 in rising order, 17 right after 8 ---- */
 
 static int is_plate_material(uint32_t material)

@@ -20,6 +20,9 @@
  *     12 ROOM TEXT: a book in the signs of 3, and the length of the space lent for its summary
  *         = cause figure length : an array of 512 dots of which ROOM were lent, LF shown as `/`; of a short space the
  *           figure is the length needed, and the length 0
+ *     13 material temperature pressure allowance od width rib rib_width m y circle sa sb D diameters... A areas...
+ *        plates...: as 2 with bolts to choose; D and A are how many diameters and root areas follow
+ *         = as 2 up to the plate, then bolt root count if accepted, : the figures at places 0 to 17
  */
 #include "vectors.h"
 
@@ -60,10 +63,10 @@ static void read_numbers(const char *line, struct numbers *numbers)
     }
 }
 
-/* Those at the places up to last. */
-static void print_figures(const uint64_t *figures, uint32_t last)
+/* Those at the places from first to last. */
+static void print_figures(const uint64_t *figures, uint32_t first, uint32_t last)
 {
-    for (uint32_t place = 0; place <= last; place++)
+    for (uint32_t place = first; place <= last; place++)
         printf(" %" PRIu64, figures[place]);
 }
 
@@ -89,6 +92,22 @@ static size_t pair_plates(const uint32_t *values, size_t count, struct paper_pla
 static void print_plate(const struct paper_plate *plate)
 {
     printf(" %" PRIu32 ":%" PRIu32, plate->thickness, plate->under_tolerance);
+}
+
+/* What is answered to a line; the figures past the plate's only if it is accepted. */
+static void print_answer(
+    const char *line, const uint64_t figures[PAPER_PLACES], const struct paper_plate *plate, uint32_t plate_place,
+    uint32_t last_place)
+{
+    printf("%s =", line);
+    print_figures(figures, PLACE_CAUSE, plate == NULL ? PLACE_FIGURE : plate_place - 1);
+    if (plate != NULL) {
+        print_plate(plate);
+        print_figures(figures, plate_place + 1, last_place);
+    }
+    printf(" :");
+    print_figures(figures, PLACE_CAUSE, last_place + 2);
+    printf("\n");
 }
 
 /* The numbers from this one on, none of them above 32 bits. Returns how many. */
@@ -126,13 +145,40 @@ static void work_question(const char *line, const struct kind *kind)
     const struct paper_plate *plate =
         kind->standard ? part->work(values, paper_standard_plates, PAPER_STANDARD_PLATES, figures)
                        : part->work(values, list, listed, figures);
-    printf("%s =", line);
-    print_figures(figures, plate == NULL ? PLACE_FIGURE : part->last_place - 1);
-    if (plate != NULL)
-        print_plate(plate);
-    printf(" :");
-    print_figures(figures, part->last_place + 2);
-    printf("\n");
+    print_answer(line, figures, plate, part->last_place, part->last_place);
+}
+
+/* The numbers that follow their count, which stands at this one of the words; it is moved past them. */
+static const uint32_t *take_list(
+    const char *line, const uint32_t words[VECTOR_NUMBERS], size_t count, size_t *at, size_t *length)
+{
+    const size_t first = *at + 1;
+    if (first > count || words[*at] > count - first)
+        give_up("no list", line);
+    *length = words[*at];
+    *at = first + *length;
+    return words + first;
+}
+
+/* The call that chooses the bolts. */
+static void work_bolts(const char *line, const struct kind *kind)
+{
+    static struct numbers numbers;
+    static uint32_t words[VECTOR_NUMBERS];
+    static struct paper_plate list[VECTOR_NUMBERS / 2];
+    uint32_t flange[BLIND_NUMBERS] = {0};
+    uint64_t figures[PAPER_PLACES];
+    struct paper_sizes sizes;
+    size_t at = BLIND_BOLT + 2; /* sa and sb are last */
+    read_numbers(line, &numbers);
+    const size_t count = read_words(line, &numbers, 1, words);
+    sizes.diameters = take_list(line, words, count, &at, &sizes.diameter_count);
+    sizes.areas = take_list(line, words, count, &at, &sizes.area_count);
+    memcpy(flange, words, BLIND_BOLT * sizeof flange[0]);
+    memcpy(flange + BLIND_SA, words + BLIND_BOLT, 2 * sizeof flange[0]);
+    const size_t listed = pair_plates(words + at, count - at, list);
+    const struct paper_plate *plate = paper_blind_flange_bolts(flange, &sizes, list, listed, figures);
+    print_answer(line, figures, plate, paper_parts[kind->part].last_place, BLIND_COUNT_PLACE);
 }
 
 /* A total and plates. */
@@ -214,7 +260,7 @@ static void work_book(const char *line, const struct kind *kind)
     memset(space, '.', sizeof space);
     paper_book(text, decode_signs(signs, text), limit, space, room, figures);
     printf("%s =", line);
-    print_figures(figures, BATCH_LENGTH_PLACE);
+    print_figures(figures, PLACE_CAUSE, BATCH_LENGTH_PLACE);
     print_space(space, sizeof space);
 }
 
@@ -277,6 +323,7 @@ static const struct kind kinds[KINDS] = {
     [KIND_SMALLEST_SERVING] = {.work = work_choice},
     [KIND_BOOK] = {.work = work_book},
     [KIND_SUMMARY] = {.work = work_summary},
+    [KIND_BLIND_FLANGE_BOLTS] = {.work = work_bolts, .part = PART_BLIND},
 };
 
 static void work_line(const char *line)

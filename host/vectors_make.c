@@ -1,5 +1,6 @@
-/* `vectors make`: the tables, roots and plates, then the calculations, then sheets, books and summaries; last, lists
-   longer than any other. */
+/* `vectors make`: the tables, roots and plates, then the calculations, then sheets, books and summaries, lists longer
+   than any other; last, bolts that are to be chosen. */
+#include "bolts.h"
 #include "books.h"
 #include "known.h"
 #include "limits.h"
@@ -168,6 +169,12 @@ static void put_choices(void)
 
 /* ---- Writing a question, as numbers or as a sheet ---- */
 
+static void put_plates(const struct question *question)
+{
+    for (size_t i = 0; i < question->plate_count && !question->standard; i++)
+        printf(" %" PRIu32 " %" PRIu32, question->plates[i].thickness, question->plates[i].under_tolerance);
+}
+
 static void put_numbers(const struct question *question)
 {
     static const enum vector_kind kinds[PARTS] = {[PART_END] = KIND_ENDPLATE, [PART_BLIND] = KIND_BLIND_FLANGE};
@@ -176,8 +183,7 @@ static void put_numbers(const struct question *question)
     printf("%d", (int)(question->standard ? standard_kinds : kinds)[question->part]);
     for (size_t i = 0; i < paper_parts[question->part].numbers; i++)
         printf(" %" PRIu32, question->numbers[i]);
-    for (size_t i = 0; i < question->plate_count && !question->standard; i++)
-        printf(" %" PRIu32 " %" PRIu32, question->plates[i].thickness, question->plates[i].under_tolerance);
+    put_plates(question);
 }
 
 static void put_question(const struct question *question)
@@ -254,24 +260,13 @@ static void put_limits(struct rng *rng, int first, int last, int by, void (*put_
         }
 }
 
-struct mend {
-    int number;
-    uint32_t value;
-};
-
-/* The order of causes: all at once, then one number after another is mended. */
-static void put_mends(
-    enum part part, const uint32_t *numbers, const struct mend *mends, size_t count,
-    void (*put_it)(const struct question *))
+/* The order of causes, from all at once on. */
+static void put_mends(enum part part, void (*put_it)(const struct question *))
 {
     static struct question question;
     static const struct paper_plate plate = {4000, 30};
-    question.part = part;
-    give_plates(&question, NULL, 0);
-    memcpy(question.numbers, numbers, sizeof question.numbers);
-    put_it(&question);
-    for (size_t i = 0; i < count; i++) {
-        question.numbers[mends[i].number] = mends[i].value;
+    for (size_t mended = 0; mended <= mend_counts[part]; mended++) {
+        give_mended(part, mended, &question);
         put_it(&question);
     }
     give_plates(&question, &plate, 1);
@@ -282,24 +277,8 @@ static void put_mends(
 
 static void put_causes(void (*put_it)(const struct question *))
 {
-    static const uint32_t end[BLIND_NUMBERS] = {
-        [END_FORM] = 9, [END_MATERIAL] = 0, [END_SHELL] = 12, [END_TEMPERATURE] = 301, [END_PRESSURE] = 0,
-        [END_DIAMETER] = 499, [END_ALLOWANCE] = 1001};
-    static const uint32_t blind[BLIND_NUMBERS] = {
-        [BLIND_MATERIAL] = 7, [BLIND_TEMPERATURE] = 301, [BLIND_PRESSURE] = 2001, [BLIND_ALLOWANCE] = 1001,
-        [BLIND_OD] = 30001, [BLIND_WIDTH] = 501, [BLIND_RIB] = 40001, [BLIND_RIB_WIDTH] = 0, [BLIND_M] = 651,
-        [BLIND_Y] = 1801, [BLIND_CIRCLE] = 0, [BLIND_BOLT] = 77, [BLIND_ROOT] = 0, [BLIND_COUNT] = 101, [BLIND_SA] = 0,
-        [BLIND_SB] = 401};
-    static const struct mend end_mends[] = {
-        {END_FORM, FORM_C}, {END_MATERIAL, 6}, {END_SHELL, 1}, {END_PRESSURE, 1000}, {END_TEMPERATURE, 225},
-        {END_MATERIAL, 1}, {END_DIAMETER, 5000}, {END_ALLOWANCE, 100}};
-    static const struct mend blind_mends[] = {
-        {BLIND_MATERIAL, 6}, {BLIND_PRESSURE, 1000}, {BLIND_TEMPERATURE, 225}, {BLIND_MATERIAL, 1}, {BLIND_OD, 5000},
-        {BLIND_ALLOWANCE, 100}, {BLIND_WIDTH, 100}, {BLIND_RIB, 4900}, {BLIND_RIB_WIDTH, 501},
-        {BLIND_RIB_WIDTH, 100}, {BLIND_M, 200}, {BLIND_Y, 110}, {BLIND_BOLT, 20}, {BLIND_ROOT, 1},
-        {BLIND_COUNT, 16}, {BLIND_SA, 100}, {BLIND_SB, 100}, {BLIND_CIRCLE, 5600}, {BLIND_ROOT, 2250}};
-    put_mends(PART_END, end, end_mends, COUNT(end_mends), put_it);
-    put_mends(PART_BLIND, blind, blind_mends, COUNT(blind_mends), put_it);
+    put_mends(PART_END, put_it);
+    put_mends(PART_BLIND, put_it);
 }
 
 /* The first accepted case of a part. */
@@ -736,6 +715,69 @@ static void put_summaries(void)
     put_signs(one_by_each.bytes, one_by_each.length);
 }
 
+/* ---- Bolts that are to be chosen ---- */
+
+static void put_list(const uint32_t *numbers, size_t count)
+{
+    printf(" %lu", (unsigned long)count);
+    for (size_t i = 0; i < count; i++)
+        printf(" %" PRIu32, numbers[i]);
+}
+
+static void put_bolts_question(const struct bolts_question *question)
+{
+    printf("%d", (int)KIND_BLIND_FLANGE_BOLTS);
+    for (int i = 0; i < BLIND_NUMBERS; i++)
+        if (i < BLIND_BOLT || i > BLIND_COUNT)
+            printf(" %" PRIu32, question->flange.numbers[i]);
+    put_list(question->diameters, question->diameter_count);
+    put_list(question->areas, question->area_count);
+    put_plates(&question->flange);
+    printf("\n");
+}
+
+/* The order of causes: ill lists at each step, then sizes of which the first serves, without a plate and with one. The
+   steps that mend bolts change nothing. */
+static void put_bolts_causes(void)
+{
+    static struct bolts_question question;
+    static const struct paper_plate plate = {4000, 30};
+    for (size_t mended = 0; mended <= mend_counts[PART_BLIND]; mended++) {
+        give_mended(PART_BLIND, mended, &question.flange);
+        give_ill_lists(mended % ILL_LISTS, &question);
+        put_bolts_question(&question);
+    }
+    give_size(20, 2250, &question);
+    put_bolts_question(&question);
+    give_plates(&question.flange, &plate, 1);
+    put_bolts_question(&question);
+}
+
+static void put_known_bolts(void)
+{
+    static struct bolts_question question;
+    for (size_t i = 0; i < known_bolts_count; i++) {
+        known_bolts_question(&known_bolts[i], &question);
+        put_bolts_question(&question);
+    }
+}
+
+static void put_drawn_bolts(struct rng *rng, int count)
+{
+    static struct bolts_question question;
+    for (int i = 0; i < count; i++) {
+        draw_bolts_question(rng, &question);
+        put_bolts_question(&question);
+    }
+}
+
+static void put_bolts(struct rng *rng)
+{
+    put_known_bolts();
+    put_bolts_causes();
+    put_drawn_bolts(rng, 16);
+}
+
 void make_vectors(void)
 {
     struct rng rng = {8532};
@@ -764,4 +806,5 @@ void make_vectors(void)
     put_books();
     put_summaries();
     put_drawn(&rng, 6, 0, LONG_LIST, put_question);
+    put_bolts(&rng);
 }

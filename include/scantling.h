@@ -54,7 +54,7 @@ enum scantling_endplate_place {
     SCANTLING_ENDPLATE_PLATE = 5          /* the plate chosen, its thickness alone: hundredths of a mm */
 };
 
-/* Places 2 to 12 of a blind flange, in the order of its report. */
+/* Places 2 to 12 of a blind flange, in the order of its report; and 13 to 15 of the call that chooses the bolts. */
 enum scantling_blind_flange_place {
     SCANTLING_BLIND_FLANGE_DESIGN_STRESS = 2,     /* stress, S: N/mm2 */
     SCANTLING_BLIND_FLANGE_AMBIENT_STRESS = 3,    /* cold, S0, at 50 degrees C: N/mm2 */
@@ -66,7 +66,10 @@ enum scantling_blind_flange_place {
     SCANTLING_BLIND_FLANGE_THICKNESS = 9,         /* need: hundredths of a mm */
     SCANTLING_BLIND_FLANGE_EDGE_THICKNESS = 10,   /* edge: hundredths of a mm */
     SCANTLING_BLIND_FLANGE_TOTAL = 11,            /* greater of both, and allowance: hundredths of a mm */
-    SCANTLING_BLIND_FLANGE_PLATE = 12             /* the plate chosen, its thickness alone: hundredths of a mm */
+    SCANTLING_BLIND_FLANGE_PLATE = 12,            /* the plate chosen, its thickness alone: hundredths of a mm */
+    SCANTLING_BLIND_FLANGE_BOLT = 13,             /* diameter of the bolts chosen: mm */
+    SCANTLING_BLIND_FLANGE_ROOT = 14,             /* root area of one of them: tenths of mm2 */
+    SCANTLING_BLIND_FLANGE_COUNT = 15             /* how many */
 };
 
 /* Places 2 and 3 of a book. */
@@ -75,8 +78,8 @@ enum scantling_batch_place {
     SCANTLING_BATCH_LENGTH = 3 /* bytes written, all of them reports */
 };
 
-/* Causes of refusal, in checking order: 17 comes right after 8, and 16 before all else. The figure is 0 where none is
-   named. */
+/* Causes of refusal, in checking order: 17 comes right after 8, 24 where 13 would, and 16 before all else. The figure
+   is 0 where none is named. */
 enum scantling_cause {
     SCANTLING_ACCEPTED = 0,
     SCANTLING_BAD_LINE = 1,          /* of a sheet only; figure: the line's number, from 1 */
@@ -93,6 +96,8 @@ enum scantling_cause {
     SCANTLING_BAD_BOLT_STRESS = 11,  /* sa or sb */
     SCANTLING_BAD_BOLT_CIRCLE = 12,
     SCANTLING_BOLTS_OVERLOADED = 13, /* the bolts do not carry the loads */
+    SCANTLING_NO_BOLTS = 24,         /* of scantling_blind_flange_bolts only, which has no 10, 12, 13: the lists, or no
+                                        size and count to choose */
     SCANTLING_NO_PLATE = 14,         /* no plate of the list or stock serves; figure: the total, hundredths of a mm */
     SCANTLING_SHORT_SPACE = 15,      /* of scantling_batch; figure: the length needed. scantling_sheet and
                                         scantling_summary return that length, never 15 */
@@ -169,6 +174,32 @@ uint64_t scantling_blind_flange_standard(
     uint32_t material, uint32_t temperature, uint32_t pressure, uint32_t allowance, uint32_t od, uint32_t width,
     uint32_t rib, uint32_t rib_width, uint32_t m, uint32_t y, uint32_t circle, uint32_t bolt, uint32_t root,
     uint32_t count, uint32_t sa, uint32_t sb, uint32_t place);
+
+/* The most bolt sizes, and the bytes of a diameter or a root area in a list: a uint32_t, lowest byte first. */
+#define SCANTLING_MOST_BOLT_SIZES 16
+#define SCANTLING_BOLT_NUMBER_BYTES 4
+
+/*
+ * One figure of a blind flange with bolts chosen from a list of sizes: the first has the first diameter and the first
+ * root area, and so on. Sizes are tried in this order, and of each 4, 8, 12 bolts up to 100. Chosen is the first size
+ * and count with which scantling_blind_flange meets none of 10, 12 and 13, and 314 * circle is at least
+ * 2500 * bolt * count. The flange is then answered as there with these bolts, which places 13 to 15 name.
+ *
+ * It is refused by 24, and never by 10, 12 or 13, if there are no sizes or more than SCANTLING_MOST_BOLT_SIZES, if
+ * there are not as many root areas as diameters, or if no size and count can be chosen. A circle below od + 120, or
+ * with 2 * circle over 3 * G, leaves none.
+ */
+uint64_t scantling_blind_flange_bolts(
+    uint32_t material, uint32_t temperature, uint32_t pressure, uint32_t allowance, uint32_t od, uint32_t width,
+    uint32_t rib, uint32_t rib_width, uint32_t m, uint32_t y, uint32_t circle, uint32_t sa,
+    uint32_t sb,              /* up to here as for scantling_blind_flange */
+    const uint8_t *diameters, /* four bytes each: bolt diameter, mm, any; those outside 12 to 76 are not chosen */
+    size_t diameters_length,  /* in bytes, any; a last 1 to 3 over are not read. diameters may be null if it is 0 */
+    const uint8_t *areas,     /* in the same way: root area of one bolt, tenths of mm2, any; see root there */
+    size_t areas_length,
+    const uint8_t *plates,    /* as for an endplate */
+    size_t plates_length,
+    uint32_t place);
 
 /*
  * Answers the sheet in text: the length in bytes of its report or refusal. If that is not above out_length the report

@@ -2,6 +2,7 @@
 use Rattle.std.specs.Prelude.{ℕ}
 use Rattle.limits.specs.declared.EndplateSheet.{EndplateSheet}
 use Rattle.limits.specs.declared.BlindFlangeSheet.{BlindFlangeSheet}
+use Rattle.limits.specs.declared.unbolted.UnboltedSheet.{UnboltedSheet}
 
 -- of an endplate; form is 1, 2, 3 for a, c, d
 abbrev pub endplate_call : ℕ → ℕ → ℕ → ℕ → ℕ → ℕ → ℕ → EndplateSheet
@@ -34,6 +35,25 @@ blind_flange_call material temperature pressure allowance od width rib ribWidth 
       bolt = bolt;
       root = root;
       count = count;
+      sa = sa;
+      sb = sb;
+    }
+
+-- of a blind flange whose bolts are chosen
+abbrev pub unbolted_call : ℕ → ℕ → ℕ → ℕ → ℕ → ℕ → ℕ → ℕ → ℕ → ℕ → ℕ → ℕ → ℕ → UnboltedSheet
+unbolted_call material temperature pressure allowance od width rib ribWidth m y circle sa sb =
+    record {
+      material = material;
+      temperature = temperature;
+      pressure = pressure;
+      allowance = allowance;
+      od = od;
+      width = width;
+      rib = rib;
+      rib_width = ribWidth;
+      m = m;
+      y = y;
+      circle = circle;
       sa = sa;
       sb = sb;
     }

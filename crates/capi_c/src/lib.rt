@@ -7,14 +7,16 @@ ghost use Rattle.root.specs.Root.{least_root};
 ghost use Rattle.plates.specs.Entries.{numbers_in, plates_in};
 ghost use Rattle.plates.specs.Plates.{standard_plates};
 ghost use Rattle.rules.specs.Answer.{endplate_answer, blind_flange_answer};
+ghost use Rattle.rules.specs.BoltedAnswer.{bolted_answer};
 ghost use Rattle.report.specs.Report.{longest};
 ghost use Rattle.sheet.specs.Outcome.{length_for, space_of};
 ghost use Rattle.sheet.specs.Exact.{SheetExact};
 ghost use Rattle.batch.specs.Book.{book_space, longest_batch, numbers_for, reports_for};
 ghost use Rattle.batch.specs.Exact.{BookExact};
 ghost use Rattle.batch.specs.Summary.{longest_summary, summary_for, summary_space};
-ghost use Rattle.capi.specs.Call.{endplate_call, blind_flange_call};
+ghost use Rattle.capi.specs.Call.{endplate_call, blind_flange_call, unbolted_call};
 ghost use Rattle.capi.specs.Places.{figure_at, EndplateFigureExact, BlindFlangeFigureExact};
+ghost use Rattle.capi.specs.Places.{bolted_figure_at, BoltedFigureExact};
 
 // One figure of an endplate, by its place. The plates are bytes, eight to a plate: thickness, then minus, each lowest
 // byte first.
@@ -173,6 +175,58 @@ pub extern "C" fn scantling_blind_flange_standard(
         count,
         sa,
         sb,
+        place,
+    )
+}
+
+// One figure of a blind flange whose bolts are chosen from a list of sizes, in the same way: diameters and root areas are
+// bytes, four to a number, lowest first.
+#[unsafe(no_mangle)]
+pub extern "C" fn scantling_blind_flange_bolts(
+    material: u32,
+    temperature: u32,
+    pressure: u32,
+    allowance: u32,
+    od: u32,
+    width: u32,
+    rib: u32,
+    rib_width: u32,
+    m: u32,
+    y: u32,
+    circle: u32,
+    sa: u32,
+    sb: u32,
+    diameters: &[u8],
+    areas: &[u8],
+    plates: &[u8],
+    place: u32,
+) -> u64
+    ensures figure { let s = unbolted_call material temperature pressure allowance od width rib rib_width m y circle sa sb in
+        let ds = numbers_in diameters.now in
+        let rs = numbers_in areas.now in
+        result ≡ bolted_figure_at (bolted_answer s ds rs (plates_in (numbers_in plates.now))) place }
+    ensures exact { let s = unbolted_call material temperature pressure allowance od width rib rib_width m y circle sa sb in
+        let ds = numbers_in diameters.now in
+        let rs = numbers_in areas.now in
+        BoltedFigureExact s (bolted_answer s ds rs (plates_in (numbers_in plates.now))) place result }
+{
+    capi::scantling_blind_flange_bolts(
+        material,
+        temperature,
+        pressure,
+        allowance,
+        od,
+        width,
+        rib,
+        rib_width,
+        m,
+        y,
+        circle,
+        sa,
+        sb,
+        diameters,
+        areas,
+        plates,
         place,
     )
 }

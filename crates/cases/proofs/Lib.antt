@@ -19,3 +19,4 @@ mod WithoutColon
 mod MinusTolerance
 mod BookOfSheets
 mod SummaryOfBook
+mod BoltsChosen

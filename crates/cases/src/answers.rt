@@ -1,7 +1,7 @@
-// Writing of a calculation's answer: the cause, its figure, the figures of the report, and the plate with its minus; then
-// the figures by place.
+// Writing of a calculation's answer: the cause, its figure, the figures of the report, the plate with its minus, and
+// the bolts where they were chosen; then the figures by place.
 use plates::Plate;
-use rules::{Answer, BlindFlangeFigures, EndplateFigures, Size};
+use rules::{Answer, BlindFlangeFigures, BoltedSize, EndplateFigures, FlangeBolts, Refusal, Size};
 use std::io;
 
 pub(crate) fn chosen(rt: &impl Print, plate: Plate) -> io::Result<()> {
@@ -42,11 +42,29 @@ fn blind_flange(rt: &impl Print, figures: BlindFlangeFigures, plate: Plate) -> i
     chosen(rt, plate)
 }
 
+fn refused(rt: &impl Print, refusal: Refusal) -> io::Result<()> {
+    print!(rt; " = {} {}", refusal.cause.number(), refusal.figure)
+}
+
 pub(crate) fn answered(rt: &impl Print, answer: Answer) -> io::Result<()> {
     match answer {
         Ok(Size::Endplate { figures, plate }) => endplate(rt, figures, plate),
         Ok(Size::BlindFlange { figures, plate }) => blind_flange(rt, figures, plate),
-        Err(refusal) => print!(rt; " = {} {}", refusal.cause.number(), refusal.figure),
+        Err(refusal) => refused(rt, refusal),
+    }
+}
+
+pub(crate) fn answered_with_bolts(
+    rt: &impl Print,
+    answer: Result<BoltedSize, Refusal>,
+) -> io::Result<()> {
+    match answer {
+        Ok(size) => {
+            let FlangeBolts { bolt, root, count } = size.bolts;
+            blind_flange(rt, size.figures, size.plate)?;
+            print!(rt; " {bolt} {root} {count}")
+        }
+        Err(refusal) => refused(rt, refusal),
     }
 }
 

@@ -6,6 +6,7 @@
 mod answers;
 mod arithmetic;
 mod blind_flange;
+mod bolts;
 mod books;
 mod choice;
 mod endplate;

@@ -2,6 +2,7 @@
 // given the numbers after that. Numbers that do not suit the kind have no answer.
 use crate::arithmetic::{design_stress, quotient, root, root_over};
 use crate::blind_flange::{blind_flange, blind_flange_standard};
+use crate::bolts::blind_flange_bolts;
 use crate::books::{book, summary};
 use crate::choice::smallest_serving;
 use crate::endplate::{endplate, endplate_standard};
@@ -30,6 +31,7 @@ enum Kind {
     SmallestServing,
     Book,
     Summary,
+    BlindFlangeBolts,
 }
 
 // A number that names no kind.
@@ -59,6 +61,7 @@ impl TryFrom<u64> for Kind {
             10 => Ok(Kind::SmallestServing),
             11 => Ok(Kind::Book),
             12 => Ok(Kind::Summary),
+            13 => Ok(Kind::BlindFlangeBolts),
             _ => Err(NoSuchKind),
         }
     }
@@ -79,6 +82,7 @@ impl Kind {
             Kind::SmallestServing => smallest_serving(rt, numbers),
             Kind::Book => book(rt, numbers, text_after(line, 2)),
             Kind::Summary => summary(rt, numbers, text_after(line, 1)),
+            Kind::BlindFlangeBolts => blind_flange_bolts(rt, numbers),
         }
     }
 }

@@ -1,7 +1,7 @@
 -- A cause's number (documents 01 and 02), and the number that an answer has: 0 where nothing is refused.
 use Rattle.std.specs.Prelude.{ℕ, Result, Ok, Err}
 use Rattle.limits.specs.declared.cause.Cause.{Cause}
-use Rattle.limits.specs.declared.cause.Cause.TheVariants.{Malformed, Material, Pressure, Temperature, NoStress, Diameter, Allowance, Width, Gasket, Bolts, BoltStress, Circle, BoltsOverloaded, NoPlate, Rib}
+use Rattle.limits.specs.declared.cause.Cause.TheVariants.{Malformed, Material, Pressure, Temperature, NoStress, Diameter, Allowance, Width, Gasket, Bolts, BoltStress, Circle, BoltsOverloaded, NoPlate, Rib, NoBolts}
 
 abbrev pub number_of : Cause → ℕ
 number_of Malformed = 1
@@ -19,6 +19,7 @@ number_of Circle = 12
 number_of BoltsOverloaded = 13
 number_of NoPlate = 14
 number_of Rib = 17
+number_of NoBolts = 24
 
 abbrev pub cause_number : {A : Type 0} → Result A Cause → ℕ
 cause_number (Ok a) = 0

@@ -24,7 +24,8 @@ first_of [] causes = 0
 first_of (number ∷ numbers) causes = cond (any (tests_of causes number)) number (first_of numbers causes)
 
 -- checking order: of several causes that apply, the first in this order answers. It stands here in the steps in which a blind
--- flange is judged: by its numbers, by its bolting once the gasket is worked, by its loads, by the plates
+-- flange is judged: by its numbers, by its bolting once the gasket is worked, by its loads, by the plates. A call that chooses
+-- the bolts has an order of its own, in the crate rules
 abbrev pub of_numbers : List ℕ
 of_numbers = 2 ∷ 3 ∷ 4 ∷ 5 ∷ 6 ∷ 7 ∷ 8 ∷ 17 ∷ 9 ∷ []
 

@@ -3,5 +3,6 @@ pub mod Sheets
 pub mod Cause
 pub mod Causes
 pub mod Stress
+pub mod Unbolted
 pub mod Limits
 pub mod Laws

@@ -1,5 +1,5 @@
--- The limits that the numbers of a sheet keep to (documents 01 and 02): causes 2 to 12 and 17. 13, the bolts do not carry,
--- and 14, no plate, are worked from the loads and the total, in the crate rules.
+-- The limits that the numbers of a sheet keep to (documents 01 and 02): causes 2 to 12 and 17. 13, the bolts do not carry, 14,
+-- no plate, and 24, no bolts to choose, are worked from the loads and the total, in the crate rules.
 use Rattle.std.specs.Prelude.{ℕ, ◌+◌, ◌*◌, not, [], ◌∷◌, ◌++◌, ltb, eqb}
 use Rattle.std.specs.Bool.{beq}
 use Rattle.tables.specs.DesignStress.{design_stress_of}
@@ -7,6 +7,8 @@ use Rattle.limits.specs.Causes.{Tests, Causes}
 use Rattle.limits.specs.Stress.{form_a, endplate_stress}
 use Rattle.limits.specs.declared.EndplateSheet.{EndplateSheet}
 use Rattle.limits.specs.declared.BlindFlangeSheet.{BlindFlangeSheet}
+use Rattle.limits.specs.declared.unbolted.UnboltedSheet.{UnboltedSheet}
+use Rattle.limits.specs.Unbolted.{flange_of}
 
 -- ---- the tests of each cause, over the values that it is about
 
@@ -114,3 +116,9 @@ bolt_stress_limits s = (11, bolt_stress_refused s.sa s.sb) ∷ []
 -- both, for the bolts of the sheet
 unfoldable pub bolting_limits : BlindFlangeSheet → ℕ → Causes
 bolting_limits s G = bolts_limits s G s.bolt s.root s.count ++ bolt_stress_limits s
+
+-- ---- of a blind flange whose bolts are yet to be chosen (document 02, R-10)
+
+-- 2 to 9, 17 and 11: all but the bolts' own
+unfoldable pub unbolted_limits : UnboltedSheet → Causes
+unbolted_limits s = flange_limits (flange_of s) ++ bolt_stress_limits (flange_of s)

@@ -1,5 +1,5 @@
-// Cause of a sheet's refusal, for the whole project, by document 01's number (17: document 02). 15 and 16 are no causes of this
-// type: they are about a call's space and limit.
+// Cause of a refusal, for the whole project, by its number in documents 01 and 02 (17 and 24: document 02). 15 and 16 are no
+// causes of this type: they are about a call's space and limit.
 
 #[derive(Clone, Copy, Debug, PartialEq, Eq)]
 pub enum Cause {
@@ -33,13 +33,16 @@ pub enum Cause {
     NoPlate = 14,
     // rib or ribw; in checking order right after 8.
     Rib = 17,
+    // No size and count fit, or the lists are empty, longer than 16 or of two lengths. Only of a call that chooses bolts: no
+    // sheet meets it.
+    NoBolts = 24,
 }
 
 impl Cause {
     ghost use Rattle.std.specs.Prelude.{◌≡◌};
     ghost use Rattle.limits.specs.Cause.{number_of};
 
-    // Document 01's number. No `From`: by its name it says which number it is.
+    // The number in documents 01 and 02. No `From`: by its name it says which number it is.
     pub fn number(self) -> u32
         ensures { result ≡ number_of self }
     {

@@ -3,7 +3,7 @@ ghost use Rattle.std.specs.Prelude.{◌≡◌, IfOk, IsTrue, IsFalse, MatchResul
 ghost use Rattle.tables.specs.DesignStress.{design_stress_of};
 ghost use Rattle.limits.specs.Cause.{cause_number};
 ghost use Rattle.limits.specs.Causes.{any, first_cause};
-ghost use Rattle.limits.specs.Limits.{endplate_causes, flange_limits, bolting_limits};
+ghost use Rattle.limits.specs.Limits.{endplate_causes, flange_limits, bolting_limits, unbolted_limits};
 ghost use Rattle.limits.specs.Limits.{material_refused, shell_refused, form_refused, pressure_refused};
 ghost use Rattle.limits.specs.Limits.{temperature_refused, diameter_refused, allowance_refused};
 ghost use Rattle.limits.specs.Limits.{width_refused, rib_refused, gasket_refused, bolts_refused};
@@ -12,6 +12,7 @@ ghost use Rattle.limits.specs.Stress.{endplate_stress};
 
 use crate::cause::Cause;
 use crate::stress::{FORM_A, endplate_stress};
+use crate::unbolted::{UNCHOSEN, UnboltedSheet};
 use crate::{BlindFlangeSheet, EndplateSheet};
 
 fn material_refused(material: u32) -> bool
@@ -141,6 +142,17 @@ pub fn flange_limits(s: BlindFlangeSheet) -> Result<u32, Cause>
     refuse_if(width_refused(s.od, s.width), Cause::Width)?;
     refuse_if(rib_refused(s.rib, s.rib_width), Cause::Rib)?;
     refuse_if(gasket_refused(s.m, s.y), Cause::Gasket)?;
+    Ok(stress)
+}
+
+// S of a blind flange whose numbers but for the bolts are within their limits, or the first of the causes 2 to 9, 17 and 11 that
+// applies, in checking order.
+pub fn unbolted_limits(s: UnboltedSheet) -> Result<u32, Cause>
+    ensures cause { cause_number result ≡ first_cause (unbolted_limits s) }
+    ensures stress { IfOk result (λ stress. stress ≡ design_stress_of s.material s.temperature) }
+{
+    let stress = flange_limits(s.bolted(UNCHOSEN))?;
+    refuse_if(bolt_stress_refused(s.sa, s.sb), Cause::BoltStress)?;
     Ok(stress)
 }
 

@@ -4,10 +4,12 @@
 mod cause;
 mod causes;
 mod stress;
+mod unbolted;
 
 pub use cause::Cause;
-pub use causes::{bolting_limits, endplate_limits, flange_limits};
+pub use causes::{bolting_limits, endplate_limits, flange_limits, unbolted_limits};
 pub use stress::endplate_stress;
+pub use unbolted::{FlangeBolts, UNCHOSEN, UnboltedSheet};
 
 // The numbers of an endplate's sheet, in the order of its lines. They are the sheet's and C's own, of any value until they are
 // tested, so form, material and shell are numbers, and 0 says that there is none.

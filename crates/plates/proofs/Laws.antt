@@ -1,8 +1,8 @@
 -- The plate rule, for callers: the choice is the first of the nominally smallest plates that serve, there is one exactly where
 -- one serves, and the rule names no other. Assumes nothing.
-use Rattle.std.specs.Prelude.{◌≡◌, refl, Bool, true, false, ◌&&◌, ◌||◌, cond, ℕ, ◌≤◌, ◌<◌, leb, ltb, Option, Some, None}
+use Rattle.std.specs.Prelude.{◌≡◌, refl, Bool, true, false, ◌&&◌, ◌||◌, cond, ℕ, ◌≤◌, ◌<◌, ltb, Option, Some, None}
 use Rattle.std.proofs.Math.Path.{sym}
-use Rattle.std.proofs.Common.{ap, subst, ◌∙◌, arith, leb-true, le-leb, ltb-true, ltb-false, append-nil, append_assoc, true≢false}
+use Rattle.std.proofs.Common.{ap, subst, ◌∙◌, arith, ltb-true, ltb-false, append-nil, append_assoc, true≢false}
 use Rattle.std.proofs.Math.Bool.{and-eq-true_iff}
 use Rattle.std.specs.List.{filter, fold, reduce}
 use mathlib.Core.Logic.{inl, inr, ◌⊎◌}

@@ -1,5 +1,5 @@
--- Lists of numbers and of bytes: an entry is two numbers, thickness first, and a number is four bytes, lowest first. What is
--- left over for less than an entry is not read.
+-- Lists of numbers and of bytes: a plate is two numbers, thickness first, and a number, of a plate or of a bolt's size, is four
+-- bytes, lowest first. What is left over for less than an entry is not read.
 use Rattle.std.specs.Prelude.{ℕ, ◌+◌, ◌*◌, List, [], ◌∷◌, get_or, drop}
 use Rattle.plates.specs.declared.Plate.{Plate}
 

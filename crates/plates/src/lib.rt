@@ -1,4 +1,4 @@
-// What a plate is, and the choice of one from a list. Hundredths of a mm.
+// What a plate is, and the choice of one from a list, in hundredths of a mm; and what may stand for a number in a list.
 #![tactic(auto)]
 
 ghost use Rattle.std.specs.Prelude.{◌≡◌};
@@ -6,8 +6,10 @@ ghost use mathlib.Core.List.{map};
 ghost use Rattle.plates.specs.Plates.{serves, smallest_serving, standard_plates, toleranced, Chosen};
 
 mod entries;
+mod numbers;
 
 pub use entries::{in_bytes, in_numbers};
+pub use numbers::{Number, numbers_in_bytes};
 
 // A plate of a list or of the usual stock.
 #[derive(Clone, Copy, Default)]

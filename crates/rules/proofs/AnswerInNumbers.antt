@@ -47,7 +47,7 @@ endplate_last s t = (
   not_among 14 before_plates (endplate_causes s) (λ e. omega arith) tt,
 )
 
-flange_last : (s : BlindFlangeSheet) (t : Bool) → PlateLast (blind_flange_causes s) t
+pub flange_last : (s : BlindFlangeSheet) (t : Bool) → PlateLast (blind_flange_causes s) t
 unfolding first_of blind_flange_causes flange_limits bolts_causes
 flange_last s t = (
   in_turn before_plates of_plates (blind_flange_causes s ++ (14, t ∷ []) ∷ []) tt,

@@ -1,6 +1,8 @@
--- Laws for callers: what an empty list answers, that an answer is known by its numbers, and what its plate and its cause are.
--- Assumes nothing.
+-- Laws for callers: what an empty list answers, that an answer is known by its numbers, what its plate and its cause are, and
+-- which bolts are taken from a list of sizes, with what answer. Assumes nothing.
 pub mod PlateAndCause
+pub mod FirstFitting
+pub mod AnsweredWithBolts
 use Rattle.std.specs.Prelude.{List, [], ◌≡◌, refl, Result, Ok, Err}
 use Rattle.std.proofs.Common.{arith}
 use Rattle.plates.specs.Plates.{smallest_serving}

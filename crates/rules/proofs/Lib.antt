@@ -14,3 +14,6 @@ mod SizedOrRefused
 mod AnswerInNumbers
 mod AnswersExact
 mod WithPlate
+mod BoltsTaken
+mod BoltedNumbers
+mod PairsLeft

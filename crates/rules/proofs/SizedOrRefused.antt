@@ -66,32 +66,30 @@ module _ (s : BlindFlangeSheet) where
       in_turn of_numbers (of_bolting ++ rest) (blind_flange_causes s) tt
       ∙ ap (λ (k : ℕ). cond (eqb limit 0) k limit) (in_turn of_bolting rest (blind_flange_causes s) tt)
 
-  pub flange_refused : {cause : ℕ} → cause ≡ limit → cause ≢ 0 → Refused cause ≡ blind_flange_sizing s
+  -- the sheet's first cause, where its numbers are within their limits
+  module _ (e : limit ≡ 0) where
+    pub bolting_refused : {cause : ℕ} → cause ≡ bolting → cause ≢ 0 → cause ≡ first_cause (blind_flange_causes s)
+    bolting_refused {cause} e' h = rw (first, e, ← e', ne_eqb cause 0 h)
+
+    pub flange_overloaded : 0 ≡ bolting → overloaded ≡ true → 13 ≡ first_cause (blind_flange_causes s)
+    flange_overloaded e' h = rw (first, e, ← e', h)
+
+    pub no_cause : 0 ≡ bolting → overloaded ≡ false → 0 ≡ first_cause (blind_flange_causes s)
+    no_cause e' h = rw (first, e, ← e', h)
+
+  -- its size, by its first cause
+  pub flange_refused :
+      {cause : ℕ} → cause ≡ first_cause (blind_flange_causes s) → cause ≢ 0 → Refused cause ≡ blind_flange_sizing s
   unfolding blind_flange_sizing
-  flange_refused {cause} e h =
-      let k : cause ≡ first_cause (blind_flange_causes s) = rw (first, ← e, ne_eqb cause 0 h) in
-      rw (← k) (refused _ _ h)
+  flange_refused e h = rw (← e) (refused _ _ h)
 
-  module _ (e : 0 ≡ limit) where
-    pub bolting_refused : {cause : ℕ} → cause ≡ bolting → cause ≢ 0 → Refused cause ≡ blind_flange_sizing s
-    unfolding blind_flange_sizing
-    bolting_refused {cause} e' h =
-        let k : cause ≡ first_cause (blind_flange_causes s) = rw (first, ← e, ← e', ne_eqb cause 0 h) in
-        rw (← k) (refused _ _ h)
-
-    pub flange_overloaded : 0 ≡ bolting → overloaded ≡ true → Refused 13 ≡ blind_flange_sizing s
-    unfolding blind_flange_sizing
-    flange_overloaded e' h =
-        let k : 13 ≡ first_cause (blind_flange_causes s) = rw (first, ← e, ← e', h) in
-        rw (← k)
-
-    pub no_cause : 0 ≡ bolting → overloaded ≡ false → first_cause (blind_flange_causes s) ≡ 0
-    no_cause e' h = rw (first, ← e, ← e', h)
+  pub limit_refused : {cause : ℕ} → cause ≡ limit → cause ≢ 0 → Refused cause ≡ blind_flange_sizing s
+  limit_refused {cause} e h = flange_refused (rw (first, ← e, ne_eqb cause 0 h)) h
 
   pub flange_sized :
       {f : BlindFlangeFigures} →
-      first_cause (blind_flange_causes s) ≡ 0 →
+      0 ≡ first_cause (blind_flange_causes s) →
       f ≡ blind_flange_figures s →
       BlindFlange f ≡ blind_flange_sizing s
   unfolding blind_flange_sizing
-  flange_sized e q = rw (q, e)
+  flange_sized e q = rw (q, ← e)

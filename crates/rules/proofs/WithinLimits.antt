@@ -71,6 +71,8 @@ flange_within s e =
 
 -- 10 to 12
 pub record BoltingWithin (s : BlindFlangeSheet) : Type 0 where
+  pub bolt : s.bolt ≤ most_bolts
+  pub count : s.count ≤ most_bolts
   pub area : bolt_area s.root s.count ≤ most_area
   pub sa : s.sa ≤ most_bolt_stress
   pub sb : s.sb ≤ most_bolt_stress
@@ -91,6 +93,8 @@ unfolding bolting_limits
 bolting_within s e =
     let n = cause_fails (bolting_limits s (reaction_diameter_of s.od s.width)) e in
     record {
+      bolt = let h = n 10 tt 1 in omega (arith, ltb-false);
+      count = let h = n 10 tt 5 in omega (arith, ltb-false);
       area =
           let bolt = n 10 tt 1 in
           let root = n 10 tt 3 in

@@ -11,3 +11,5 @@ pub mod Sizing
 pub mod Answer
 pub mod Numbers
 pub mod Exact
+pub mod BoltChoice
+pub mod BoltedAnswer

@@ -31,6 +31,7 @@ pub(crate) fn endplate_figures(s: EndplateSheet, stress: u32) -> EndplateFigures
 }
 
 // S, the gasket and W being those of the sheet.
+#[inline(always)]
 pub(crate) fn blind_flange_figures(
     s: BlindFlangeSheet,
     stress: u32,

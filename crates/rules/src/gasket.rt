@@ -42,6 +42,7 @@ fn reaction_diameter(od: u32, b: u64) -> u32
 }
 
 // Asked for where none of the causes 2 to 9 and 17 applies: within these limits the loads fit.
+#[inline(always)]
 pub(crate) fn gasket_of(s: BlindFlangeSheet) -> Gasket
     requires { first_cause (flange_limits s) ≡ 0 }
     ensures { result ≡ gasket_of s }

@@ -5,12 +5,15 @@ ghost use Rattle.std.specs.Prelude.{◌≡◌};
 ghost use mathlib.Core.List.{map};
 ghost use Rattle.rules.specs.Answer.{endplate_answer, blind_flange_answer, in_numbers};
 ghost use Rattle.rules.specs.Answer.{cause_of, figure_of, report_of};
+ghost use Rattle.rules.specs.BoltedAnswer.{bolted_answer, bolted_in_numbers, bolts_list, BoltedExact};
+ghost use Rattle.rules.specs.BoltedAnswer.{bolted_cause, bolted_figure, bolted_report, bolted_bolts};
 ghost use Rattle.rules.specs.Exact.{EndplateExact, BlindFlangeExact};
 ghost use Rattle.rules.specs.Numbers.{endplate_cause, endplate_figure, endplate_report};
 ghost use Rattle.rules.specs.Numbers.{blind_flange_cause, blind_flange_figure, blind_flange_report};
 
-pub use limits::{BlindFlangeSheet, Cause, EndplateSheet};
+pub use limits::{BlindFlangeSheet, Cause, EndplateSheet, FlangeBolts, UnboltedSheet};
 
+mod bolt_choice;
 mod bolts;
 mod figures;
 mod gasket;
@@ -18,8 +21,11 @@ mod loads;
 mod sizing;
 mod thickness;
 
-use plates::{Entry, Plate};
-use sizing::{blind_flange_sizing, chosen, endplate_sizing};
+use bolt_choice::bolts_taken;
+use gasket::gasket_of;
+use limits::UNCHOSEN;
+use plates::{Entry, Number, Plate};
+use sizing::{blind_flange_sizing, chosen, endplate_sizing, sizing_on_gasket};
 
 // The figures of an endplate's report but for the plate.
 #[derive(Clone, Copy)]
@@ -71,6 +77,14 @@ pub enum Size {
     },
 }
 
+// A blind flange sized, with the bolts that were chosen for it.
+#[derive(Clone, Copy)]
+pub struct BoltedSize {
+    pub figures: BlindFlangeFigures,
+    pub plate: Plate,
+    pub bolts: FlangeBolts,
+}
+
 // The first cause to refuse a part, and the figure returned with it: the line of 1, the total of 14, else 0. Document 01
 // gives every refusal these two numbers.
 #[derive(Clone, Copy, Debug, PartialEq, Eq)]
@@ -119,4 +133,40 @@ pub fn blind_flange<E: Entry>(s: BlindFlangeSheet, plates: &[E]) -> Answer
     let figures = blind_flange_sizing(s)?;
     let plate = chosen(figures.total, plates)?;
     Ok(Size::BlindFlange { figures, plate })
+}
+
+// The size of a blind flange with bolts from a list of sizes, diameters and root areas: the first pair of a size and a count that
+// meets none of the causes 10, 12 and 13 and whose pitch is enough. Refused by 24 where there is none, or where the lists are empty,
+// longer than 16 or of two lengths.
+pub fn blind_flange_bolts<N: Number, E: Entry>(
+    s: UnboltedSheet,
+    diameters: &[N],
+    areas: &[N],
+    plates: &[E],
+) -> Result<BoltedSize, Refusal>
+    ensures value { let ds = map N.number_of diameters.now in
+        let rs = map N.number_of areas.now in
+        bolted_in_numbers result ≡ bolted_answer s ds rs (map E.plate_of plates.now) }
+    ensures numbers { let ds = map N.number_of diameters.now in
+        let rs = map N.number_of areas.now in
+        let ps = map E.plate_of plates.now in
+        let a = bolted_in_numbers result in
+        (cause_of a.answer ≡ bolted_cause s ds rs ps)
+        × (figure_of a.answer ≡ bolted_figure s ds rs ps)
+        × (report_of a.answer ≡ bolted_report s ds rs ps) }
+    ensures bolts { let ds = map N.number_of diameters.now in
+        let rs = map N.number_of areas.now in
+        bolts_list (bolted_in_numbers result).bolts ≡ bolted_bolts s ds rs (map E.plate_of plates.now) }
+    ensures exact { BoltedExact s (bolted_in_numbers result) }
+{
+    let stress = limits::unbolted_limits(s)?;
+    let gasket = gasket_of(s.bolted(UNCHOSEN));
+    let bolts = bolts_taken(s, gasket, diameters, areas).ok_or(Cause::NoBolts)?;
+    let figures = sizing_on_gasket(s.bolted(bolts), stress, gasket)?;
+    let plate = chosen(figures.total, plates)?;
+    Ok(BoltedSize {
+        figures,
+        plate,
+        bolts,
+    })
 }

@@ -66,6 +66,7 @@ impl Diameters {
     }
 
     // edge: the greater of the one cold under W and the one at design temperature under Wm1.
+    #[inline(always)]
     pub(crate) fn edge_thickness(self, ambient: Loading, operating: Loading) -> u64
         ensures { result ≡ edge_thickness_of operating.stress ambient.stress self.g self.circle operating.load ambient.load }
     {

@@ -1,17 +1,10 @@
 -- `blind_flange` meets its contract. Assumes nothing.
-use Rattle.std.proofs.Common.{ap, ◌∙◌, List}
+use Rattle.std.proofs.Common.{ap, ◌∙◌}
 use mathlib.Core.List.{map}
-use Rattle.plates.specs.declared.Plate.{Plate}
-use Rattle.rules.specs.Answer.{Answer, from_plates}
-use Rattle.rules.specs.Sizing.{Sizing}
 use Rattle.std.proofs.lemmas.Result.{err_from_is_err_and}
-use Rattle.rules.proofs.WithPlate.{blind_flange_with}
+use Rattle.rules.proofs.WithPlate.{with, blind_flange_with}
 use Rattle.rules.proofs.AnswersExact.{flange_promised}
 use Rattle.rules.proofs.blind_flange.Goals as goal
-
--- what a size answers with a list
-abbrev with : List Plate → Sizing → Answer
-with plates size = from_plates size plates
 
 pub returns-in_err-figures : goal.returns-in_err-figures
 returns-in_err-figures g c =
