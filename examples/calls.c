@@ -71,6 +71,22 @@ static unsigned long endplate_total(void)
     return (unsigned long)scantling_endplate(2, 1, 1, 150, 1000, 5000, 100, NULL, 0, SCANTLING_FIGURE);
 }
 
+/* A support plate of 600 mm for steel tubes of 19 mm, held so many mm from the next. */
+static unsigned long support_plate(uint32_t span, uint32_t place)
+{
+    return (unsigned long)scantling_support_plate(19, SCANTLING_GROUP_STEEL, span, 600, place);
+}
+
+/* At 1200 mm, and a millimetre past the longest span. */
+static void print_support_plate(void)
+{
+    if (support_plate(1200, SCANTLING_CAUSE) == SCANTLING_ACCEPTED)
+        printf("support plate: longest span %lu mm, thickness %lu mm\n",
+               support_plate(1200, SCANTLING_SUPPORT_PLATE_LONGEST_SPAN),
+               support_plate(1200, SCANTLING_SUPPORT_PLATE_THICKNESS));
+    printf("support plate at 1501 mm: refused by %lu\n", support_plate(1501, SCANTLING_CAUSE));
+}
+
 /* Three sheets in one text: the end, one that stops too soon, and the same end from the usual stock. */
 static const uint8_t book[] =
     "part=end\nform=c\nmaterial=1\nshell=1\ntemp=150\npressure=1000\ndia=5000\nallow=100\nplates=2500,3200,4000\n"
@@ -120,6 +136,7 @@ int main(void)
     printf("from the usual stock: endplate %lu, blind flange %lu\n", endplate_standard(SCANTLING_ENDPLATE_PLATE),
            blind_flange_standard(SCANTLING_BLIND_FLANGE_PLATE));
     printf("endplate without a plate: total %lu\n", endplate_total());
+    print_support_plate();
     fwrite(report, 1, length, stdout);
     printf("book: the first 2 sheets have reports of %lu bytes, all %lu sheets these:\n",
            batch(2, SCANTLING_BATCH_LENGTH), batch(SCANTLING_MOST_SHEETS, SCANTLING_BATCH_COUNT));

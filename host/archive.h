@@ -1,4 +1,4 @@
-/* The archive's numeric calls, by part. */
+/* The archive's numeric calls: by part, and those that are of no part or choose its bolts. */
 #ifndef ARCHIVE_H
 #define ARCHIVE_H
 
@@ -20,6 +20,9 @@ enum { LIST_DIAMETERS, LIST_AREAS, LIST_PLATES, BOLT_LISTS };
 
 /* The call that chooses the bolts; those of n are not given to it. */
 uint64_t archive_bolts(const uint32_t n[], const struct byte_list lists[BOLT_LISTS], uint32_t place);
+
+/* The look-up of baffles and support plates. */
+uint64_t archive_support_plate(const uint32_t n[SUPPORT_NUMBERS], uint32_t place);
 
 /* Numbers as the calls take them: PAPER_NUMBER_BYTES each. bytes may be null where count is 0. */
 void pack_numbers(const uint32_t *numbers, size_t count, uint8_t *bytes);

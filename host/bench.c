@@ -1,7 +1,7 @@
 /*
  * Program `bench`: how much the archive does in a second beside the separate program, and for the least root beside
- * floating point; and how long it takes where it chooses bolts, and for a sheet of a book, beside the same sheets one
- * by one, and of a summary.
+ * floating point; how long a call takes that chooses bolts or looks up a support plate; and a sheet of a book, beside
+ * the same sheets one by one, and of a summary.
  * Every round measures all works in turn; the medians of the rounds are printed. The sums of all sides must agree.
  */
 #define _POSIX_C_SOURCE 199309L
@@ -44,6 +44,11 @@ struct bolts_input {
 };
 enum { FIRST_TAKEN, LAST_TAKEN, TAKEN };
 static struct bolts_input bolts_inputs[TAKEN][BOLT_INPUTS];
+
+struct support_input {
+    uint32_t n[SUPPORT_NUMBERS];
+};
+static struct support_input support_inputs[INPUTS];
 
 static uint64_t long_numbers[INPUTS], short_numbers[INPUTS];
 
@@ -106,6 +111,20 @@ static void draw_bolts_input(struct rng *rng, size_t taken, struct bolts_input *
     keep_bolts_input(&question, input);
 }
 
+/* Any tube from the first row to past the last; the longer its allowed span the more often. */
+static void draw_support_input(struct rng *rng, struct support_input *input)
+{
+    uint64_t figures[PAPER_PLACES];
+    uint32_t *n = input->n;
+    do {
+        n[SUPPORT_TUBE] = rng_between(rng, 6, 80);
+        n[SUPPORT_GROUP] = rng_between(rng, GROUP_STEEL, GROUP_COPPER);
+        n[SUPPORT_SPAN] = rng_between(rng, 0, 3000);
+        n[SUPPORT_PLATE] = rng_between(rng, 0, 1000);
+        paper_support_plate(n, figures);
+    } while (figures[PLACE_CAUSE] != CAUSE_NONE);
+}
+
 static void lay_sheets(void)
 {
     sheet_starts[0] = 0;
@@ -129,6 +148,8 @@ static void draw_inputs(void)
         draw_bolts_input(&rng, 0, &bolts_inputs[FIRST_TAKEN][i]);
         draw_bolts_input(&rng, PAPER_MOST_SIZES - 1, &bolts_inputs[LAST_TAKEN][i]);
     }
+    for (size_t i = 0; i < INPUTS; i++)
+        draw_support_input(&rng, &support_inputs[i]);
     lay_sheets();
 }
 
@@ -140,6 +161,7 @@ struct pass {
     const struct input *inputs;               /* of calls and sheets */
     enum part part;                           /* of calls */
     const struct bolts_input *bolts;          /* of calls that choose the bolts */
+    const struct support_input *supports;     /* of calls for support plates */
     /* a sheet's report, or a book's summary */
     size_t (*sheet)(const uint8_t *text, size_t length, uint8_t *out, size_t out_length);
     const uint64_t *numbers;                  /* of roots */
@@ -194,6 +216,25 @@ static uint64_t separate_bolts_figures(const struct pass *pass)
         const size_t count = paper_plates(input->plates, sizeof input->plates, plates, PLATES);
         paper_blind_flange_bolts(input->n, &sizes, plates, count, figures);
         sum += figures[BLIND_PLATE_PLACE];
+    }
+    return sum;
+}
+
+/* Least thicknesses. */
+static uint64_t archive_supports(const struct pass *pass)
+{
+    uint64_t sum = 0;
+    for (size_t i = 0; i < INPUTS; i++)
+        sum += archive_support_plate(pass->supports[i].n, SUPPORT_THICKNESS_PLACE);
+    return sum;
+}
+
+static uint64_t separate_supports(const struct pass *pass)
+{
+    uint64_t sum = 0, figures[PAPER_PLACES];
+    for (size_t i = 0; i < INPUTS; i++) {
+        paper_support_plate(pass->supports[i].n, figures);
+        sum += figures[SUPPORT_THICKNESS_PLACE];
     }
     return sum;
 }
@@ -313,6 +354,9 @@ struct work {
 #define BOLTS(taken)                                                                     \
     {{.run = archive_bolts_figures, .count = BOLT_INPUTS, .bolts = bolts_inputs[taken]}, \
      {.run = separate_bolts_figures, .count = BOLT_INPUTS, .bolts = bolts_inputs[taken]}}
+#define SUPPORTS                                                             \
+    {{.run = archive_supports, .count = INPUTS, .supports = support_inputs}, \
+     {.run = separate_supports, .count = INPUTS, .supports = support_inputs}}
 #define SHEETS(of, minus)                                                                        \
     {{.run = reports, .count = INPUTS, .inputs = inputs[of][minus], .sheet = scantling_sheet}, \
      {.run = reports, .count = INPUTS, .inputs = inputs[of][minus], .sheet = paper_sheet}}
@@ -334,6 +378,7 @@ static const struct work works[] = {
     {"blind flange calls", CALLS(PART_BLIND)},
     {"16 bolt sizes, first taken", BOLTS(FIRST_TAKEN)},
     {"16 bolt sizes, last taken", BOLTS(LAST_TAKEN)},
+    {"support plates", SUPPORTS},
     {"endplate sheets", SHEETS(PART_END, EXACT)},
     {"blind flange sheets", SHEETS(PART_BLIND, EXACT)},
     {"endplate sheets, minus", SHEETS(PART_END, MINUS)},
@@ -347,7 +392,7 @@ static const struct work works[] = {
     {"64 sheets in a summary", SUMMARIES(64)},
 };
 #define WORKS (sizeof works / sizeof works[0])
-#define FIRST_BOOKS 10 /* of the works */
+#define FIRST_BOOKS 11 /* of the works */
 
 static double rates[WORKS][3][ROUNDS]; /* per second */
 volatile uint64_t bench_sink;          /* keeps the passes from being left out */
@@ -443,7 +488,7 @@ int main(void)
     for (size_t i = 0; i < FIRST_BOOKS; i++)
         print_work(i);
     for (size_t i = 0; i < FIRST_BOOKS; i++)
-        if (works[i].passes[0].bolts != NULL)
+        if (works[i].passes[0].bolts != NULL || works[i].passes[0].supports != NULL)
             printf("%s: %.0f nanoseconds a call\n", works[i].name, nanoseconds(rates[i][0]));
     printf("nanoseconds a sheet; ratios are book or summary to the other\n");
     printf("%-28s %14s %14s %8s %14s %8s\n", "work", "book", "one by one", "ratio", "separate", "ratio");

@@ -1,7 +1,8 @@
 /*
  * Program `compare [NUMERIC_CALLS [SHEETS [SEED [BOOKS [SIZES]]]]]`: calls the archive as a drawing program would and
  * compares every answer with the separate calculation; SIZES is how many lists of bolt sizes are drawn. Exits with 1 at
- * the first difference, and if the books drawn never meet a kind of summary, or the lists a cause, a size or a count.
+ * the first difference, and if the books drawn never meet a kind of summary, the lists a cause, a size or a count, or
+ * the support plates a cause, an entry or a limit.
  */
 #include "compare.h"
 #include "known.h"
@@ -311,6 +312,7 @@ int main(int argc, char **argv)
     static struct compare compare;
     static struct compare_books books;
     static struct compare_bolts bolts;
+    static struct compare_supports supports;
     const uint64_t calls = argument(argc, argv, 1, 1000000);
     const uint64_t sheets = argument(argc, argv, 2, 1000000);
     compare.rng.state = argument(argc, argv, 3, 8532);
@@ -330,6 +332,9 @@ int main(int argc, char **argv)
     while (compare.sheets < sheets)
         compare_drawn_sheet(&compare);
     print_counts(&compare);
+    fflush(stdout);
+    compare_all_supports(&supports);
+    print_supports(&supports);
     fflush(stdout);
     compare_all_bolts(&bolts, most_sizes);
     print_bolts(&bolts);

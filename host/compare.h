@@ -4,6 +4,7 @@
 
 #include "archive.h"
 #include "books.h"
+#include "supports.h"
 
 struct known_book;
 struct known_summary;
@@ -165,6 +166,27 @@ void compare_all_bolts(struct compare_bolts *compare, uint64_t most);
 
 /* Ends the program if many drawn ones never meet a cause, a size or a count. */
 void print_bolts(const struct compare_bolts *compare);
+
+/* Where answers change: of each entry of Table 13 its tube and its span, and the columns and rows of Table 14. */
+#define SUPPORT_LIMITS (2 * SUPPORT_TUBE_ROWS * SUPPORT_GROUPS + SUPPORT_SPAN_COLUMNS + SUPPORT_PLATE_ROWS)
+
+/* Support plates; no random numbers. */
+struct compare_supports {
+    uint64_t calls;     /* of one place each, those by hand among them */
+    uint64_t by_hand;
+    uint64_t questions; /* in all combinations; of these: */
+    uint64_t causes[CAUSE_SUPPORT_PLATE + 1];
+    uint64_t spans[SUPPORT_TUBE_ROWS * SUPPORT_GROUPS];              /* accepted, by entry of Table 13, row by row, */
+    uint64_t thicknesses[SUPPORT_PLATE_ROWS * SUPPORT_SPAN_COLUMNS]; /* and of Table 14 */
+    uint64_t limits[3 * SUPPORT_LIMITS];                             /* a mm below, at and a mm above each */
+};
+
+/* All by hand; then in all combinations every tube up to 80, the groups, spans and plates about each limit, and of all
+   four the numbers about the ends of 8, 16, 31 and 32 bits. */
+void compare_all_supports(struct compare_supports *compare);
+
+/* Ends the program if they never meet a cause, an entry or a limit. */
+void print_supports(const struct compare_supports *compare);
 
 /* A book with some limits and some spaces, by all places or one. */
 void compare_drawn_book(struct compare_books *compare);

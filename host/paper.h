@@ -1,6 +1,7 @@
 /*
  * The separate calculation: flat endplates and blind flanges worked from documents 01 and 02 alone, in 128-bit integers and
  * the documents' units. Every "least whole number with ..." is a search on the inequality as the document writes it.
+ * Baffles and support plates are read from the tables of document 004.
  */
 #ifndef PAPER_H
 #define PAPER_H
@@ -23,13 +24,14 @@ enum {
 /* Forms a, c, d of 8.3.4 as the numeric call names them. */
 enum { FORM_A = 1, FORM_C = 2, FORM_D = 3 };
 
-/* Causes of refusal; 16 is of a book alone, 24 of bolts to be chosen. Counts by cause have CAUSES places, one more than
-   the greatest without 24. */
+/* Causes of refusal; 16 is of a book alone, 18 to 20 of a support plate, 24 of bolts to be chosen. Counts by cause have
+   CAUSES places, one more than the greatest without 18 to 20 and 24. */
 enum {
     CAUSE_NONE = 0, CAUSE_LINE = 1, CAUSE_MATERIAL = 2, CAUSE_PRESSURE = 3, CAUSE_TEMPERATURE = 4,
     CAUSE_DESIGN_STRESS = 5, CAUSE_DIAMETER = 6, CAUSE_ALLOWANCE = 7, CAUSE_WIDTH = 8, CAUSE_GASKET = 9,
     CAUSE_BOLTS = 10, CAUSE_BOLT_STRESS = 11, CAUSE_CIRCLE = 12, CAUSE_OVERLOAD = 13, CAUSE_PLATE = 14,
-    CAUSE_SPACE = 15, CAUSE_LIMIT = 16, CAUSE_RIB = 17, CAUSES, CAUSE_NO_BOLTS = 24
+    CAUSE_SPACE = 15, CAUSE_LIMIT = 16, CAUSE_RIB = 17, CAUSES, CAUSE_TUBE = 18, CAUSE_SPAN = 19,
+    CAUSE_SUPPORT_PLATE = 20, CAUSE_NO_BOLTS = 24
 };
 
 /* Places of the figures. Those from 2 on stand in report order; a place without a figure holds 0. */
@@ -125,6 +127,15 @@ int paper_pitch_enough(const uint32_t n[BLIND_NUMBERS]);
 const struct paper_plate *paper_blind_flange_bolts(
     const uint32_t n[BLIND_NUMBERS], const struct paper_sizes *sizes, const struct paper_plate *plates, size_t count,
     uint64_t figures[PAPER_PLACES]);
+
+/* The numbers of a support plate in the order of the request, and the groups of Table 13's columns. */
+enum { SUPPORT_TUBE, SUPPORT_GROUP, SUPPORT_SPAN, SUPPORT_PLATE, SUPPORT_NUMBERS };
+enum { GROUP_STEEL = 1, GROUP_COPPER = 2 };
+
+enum { SUPPORT_LONGEST_SPAN_PLACE = PLACE_REPORT, SUPPORT_THICKNESS_PLACE };
+
+/* Tables 13 and 14, for any numbers: the longest span allowed and the least thickness, mm, by place. */
+void paper_support_plate(const uint32_t n[SUPPORT_NUMBERS], uint64_t figures[PAPER_PLACES]);
 
 /* The accuracy demand on the figures printed for accepted numbers: 1 if the exact inequalities judge them right. */
 int paper_endplate_exact(const uint32_t n[], const uint64_t figures[PAPER_PLACES]);

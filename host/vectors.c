@@ -23,6 +23,8 @@
  *     13 material temperature pressure allowance od width rib rib_width m y circle sa sb D diameters... A areas...
  *        plates...: as 2 with bolts to choose; D and A are how many diameters and root areas follow
  *         = as 2 up to the plate, then bolt root count if accepted, : the figures at places 0 to 17
+ *     14 tube group span plate
+ *         = cause figure, the longest span and the least thickness if accepted, : the figures at places 0 to 5
  */
 #include "vectors.h"
 
@@ -181,6 +183,23 @@ static void work_bolts(const char *line, const struct kind *kind)
     print_answer(line, figures, plate, paper_parts[kind->part].last_place, BLIND_COUNT_PLACE);
 }
 
+static void work_support_plate(const char *line, const struct kind *kind)
+{
+    (void)kind;
+    static struct numbers numbers;
+    static uint32_t words[VECTOR_NUMBERS];
+    uint64_t figures[PAPER_PLACES];
+    read_numbers(line, &numbers);
+    if (read_words(line, &numbers, 1, words) != SUPPORT_NUMBERS)
+        give_up("not as many numbers", line);
+    paper_support_plate(words, figures);
+    printf("%s =", line);
+    print_figures(figures, PLACE_CAUSE, figures[PLACE_CAUSE] == CAUSE_NONE ? SUPPORT_THICKNESS_PLACE : PLACE_FIGURE);
+    printf(" :");
+    print_figures(figures, PLACE_CAUSE, SUPPORT_THICKNESS_PLACE + 2);
+    printf("\n");
+}
+
 /* A total and plates. */
 static void work_choice(const char *line, const struct kind *kind)
 {
@@ -324,6 +343,7 @@ static const struct kind kinds[KINDS] = {
     [KIND_BOOK] = {.work = work_book},
     [KIND_SUMMARY] = {.work = work_summary},
     [KIND_BLIND_FLANGE_BOLTS] = {.work = work_bolts, .part = PART_BLIND},
+    [KIND_SUPPORT_PLATE] = {.work = work_support_plate},
 };
 
 static void work_line(const char *line)

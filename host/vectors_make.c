@@ -1,9 +1,10 @@
-/* `vectors make`: the tables, roots and plates, then the calculations, then sheets, books and summaries, lists longer
-   than any other; last, bolts that are to be chosen. */
+/* `vectors make`: Table 1, roots and plates, then the calculations, then sheets, books and summaries, lists longer
+   than any other, bolts that are to be chosen; last, support plates. */
 #include "bolts.h"
 #include "books.h"
 #include "known.h"
 #include "limits.h"
+#include "supports.h"
 #include "vectors.h"
 
 #include <inttypes.h>
@@ -778,6 +779,27 @@ static void put_bolts(struct rng *rng)
     put_drawn_bolts(rng, 16);
 }
 
+/* ---- Support plates ---- */
+
+static void put_support(uint32_t tube, uint32_t group, uint32_t span, uint32_t plate)
+{
+    printf("%d %" PRIu32 " %" PRIu32 " %" PRIu32 " %" PRIu32 "\n", (int)KIND_SUPPORT_PLATE, tube, group, span, plate);
+}
+
+/* Those by hand, in which is each diameter of Table 13, and both groups a mm below and a mm above it. */
+static void put_supports(void)
+{
+    for (size_t i = 0; i < known_support_count; i++) {
+        const uint32_t *n = known_supports[i].n;
+        put_support(n[SUPPORT_TUBE], n[SUPPORT_GROUP], n[SUPPORT_SPAN], n[SUPPORT_PLATE]);
+    }
+    for (size_t row = 0; row < SUPPORT_TUBE_ROWS; row++)
+        for (uint32_t group = GROUP_STEEL; group <= GROUP_COPPER; group++) {
+            put_support(support_tube_rows[row].tube - 1, group, 1, 1);
+            put_support(support_tube_rows[row].tube + 1, group, 0, 1000);
+        }
+}
+
 void make_vectors(void)
 {
     struct rng rng = {8532};
@@ -807,4 +829,5 @@ void make_vectors(void)
     put_summaries();
     put_drawn(&rng, 6, 0, LONG_LIST, put_question);
     put_bolts(&rng);
+    put_supports();
 }

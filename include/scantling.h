@@ -1,5 +1,6 @@
 /*
- * scantling: flat endplates and blind flanges to BS 853-2:1996, clauses 5 and 8, on whole numbers.
+ * scantling: flat endplates, blind flanges, baffles and support plates to BS 853-2:1996, clauses 5, 8 and 10, on whole
+ * numbers.
  *
  * Link the archive libcapi.a that `host/archive` writes to target/staticlib/ (x86-64 Linux).
  * The calls keep no state, allocate nothing and may run in several threads at once.
@@ -40,7 +41,8 @@
 extern "C" {
 #endif
 
-/* Places of a calculation's figures, and of a book's. A refusal has 0 from 2 on, and any other place is 0. */
+/* Places of a calculation's figures, of a support plate's and of a book's. A refusal has 0 from 2 on, and any other
+   place is 0. */
 enum scantling_place {
     SCANTLING_CAUSE = 0, /* 0 where what is asked is accepted */
     SCANTLING_FIGURE = 1 /* the figure that belongs to the cause */
@@ -72,14 +74,26 @@ enum scantling_blind_flange_place {
     SCANTLING_BLIND_FLANGE_COUNT = 15             /* how many */
 };
 
+/* Places 2 and 3 of a support plate. */
+enum scantling_support_plate_place {
+    SCANTLING_SUPPORT_PLATE_LONGEST_SPAN = 2, /* of Table 13: mm */
+    SCANTLING_SUPPORT_PLATE_THICKNESS = 3     /* the least, of Table 14: mm */
+};
+
+/* Groups of tube materials, the columns of Table 13. */
+enum scantling_group {
+    SCANTLING_GROUP_STEEL = 1, /* carbon steel, steel alloys, stainless steel */
+    SCANTLING_GROUP_COPPER = 2 /* copper and copper alloys */
+};
+
 /* Places 2 and 3 of a book. */
 enum scantling_batch_place {
     SCANTLING_BATCH_COUNT = 2, /* sheets worked, refused ones among them: 1 to the limit */
     SCANTLING_BATCH_LENGTH = 3 /* bytes written, all of them reports */
 };
 
-/* Causes of refusal, in checking order: 17 comes right after 8, 24 where 13 would, and 16 before all else. The figure
-   is 0 where none is named. */
+/* Causes of refusal, in checking order: 17 comes right after 8, 24 where 13 would, and 16 before all else. 18 to 20 are
+   of scantling_support_plate only, which has no others. The figure is 0 where none is named. */
 enum scantling_cause {
     SCANTLING_ACCEPTED = 0,
     SCANTLING_BAD_LINE = 1,          /* of a sheet only; figure: the line's number, from 1 */
@@ -101,7 +115,10 @@ enum scantling_cause {
     SCANTLING_NO_PLATE = 14,         /* no plate of the list or stock serves; figure: the total, hundredths of a mm */
     SCANTLING_SHORT_SPACE = 15,      /* of scantling_batch; figure: the length needed. scantling_sheet and
                                         scantling_summary return that length, never 15 */
-    SCANTLING_BAD_LIMIT = 16         /* of scantling_batch only: limit */
+    SCANTLING_BAD_LIMIT = 16,        /* of scantling_batch only: limit */
+    SCANTLING_BAD_TUBE = 18,         /* tube is below 6 mm, or group neither 1 nor 2 */
+    SCANTLING_SPAN_TOO_LONG = 19,    /* span is over the longest that Table 13 allows */
+    SCANTLING_PLATE_TOO_LARGE = 20   /* plate is over 1000 mm, the largest of Table 14 */
 };
 
 /* No report is longer, in bytes. */
@@ -200,6 +217,23 @@ uint64_t scantling_blind_flange_bolts(
     const uint8_t *plates,    /* as for an endplate */
     size_t plates_length,
     uint32_t place);
+
+/*
+ * One figure of a transverse baffle or tube support plate: the longest span that Table 13 allows (10.6.4), or the least
+ * thickness by Table 14 (10.6.5.1). Lengths are in whole mm, and each number may be any uint32_t. The tube reads the
+ * row of the largest diameter listed that is not above it, one of 63 that of 50. Span and plate read the first column
+ * and row of Table 14 that are not below them, so that zero reads the first.
+ *
+ * It is refused by 18, 19 or 20, in that order. The figure is then 0, and so are places 2 and 3, under 19 too; but a
+ * span and a plate of 0 meet neither 19 nor 20, so that with them place 2 tells what the tube allows. What these
+ * clauses ask besides, of U-bends and of finned tubes, is not looked at.
+ */
+uint64_t scantling_support_plate(
+    uint32_t tube,   /* outside diameter of the tube, fins included: at least 6 */
+    uint32_t group,  /* of its material: 1 or 2, see enum scantling_group */
+    uint32_t span,   /* unsupported length of straight tube, without the U-bend: at most the longest for the tube */
+    uint32_t plate,  /* diameter of the plate: at most 1000 */
+    uint32_t place); /* the figure wanted, any; see enum scantling_place and enum scantling_support_plate_place */
 
 /*
  * Answers the sheet in text: the length in bytes of its report or refusal. If that is not above out_length the report

@@ -14,6 +14,7 @@ ghost use Rattle.sheet.specs.Exact.{SheetExact};
 ghost use Rattle.batch.specs.Book.{book_space, longest_batch, numbers_for, reports_for};
 ghost use Rattle.batch.specs.Exact.{BookExact};
 ghost use Rattle.batch.specs.Summary.{longest_summary, summary_for, summary_space};
+ghost use Rattle.supports.specs.SupportPlate.{numbers_for as support_numbers_for};
 ghost use Rattle.capi.specs.Call.{endplate_call, blind_flange_call, unbolted_call};
 ghost use Rattle.capi.specs.Places.{figure_at, EndplateFigureExact, BlindFlangeFigureExact};
 ghost use Rattle.capi.specs.Places.{bolted_figure_at, BoltedFigureExact};
@@ -23,7 +24,7 @@ mod places;
 mod unbolted;
 
 use call::{blind_flange_call, endplate_call};
-use places::{at, bolted_figure_at, figure_at};
+use places::{at, bolted_figure_at, figure_at, support_at};
 use plates::{in_bytes, numbers_in_bytes, standard_plates};
 use unbolted::unbolted_call;
 
@@ -231,6 +232,13 @@ pub fn scantling_blind_flange_bolts(
     let areas = numbers_in_bytes(areas);
     let answer = rules::blind_flange_bolts(sheet, diameters, areas, in_bytes(plates));
     bolted_figure_at(answer, place)
+}
+
+// One figure of a baffle or support plate, by its place: 2 the longest span of the tubes, 3 the least thickness.
+pub fn scantling_support_plate(tube: u32, group: u32, span: u32, plate: u32, place: u32) -> u64
+    ensures { result ≡ get_or (support_numbers_for tube group span plate) place 0 }
+{
+    support_at(supports::support_plate(tube, group, span, plate), place)
 }
 
 // Answers the sheet in `text`: the length of the report that results. It stands at the front of `out` if that is long

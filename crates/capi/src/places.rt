@@ -1,12 +1,14 @@
-// An answer's figures by place, for C; of a plate the thickness alone. Places 0 and 1 of an accepted sheet, its cause and
-// figure, are 0.
+// An answer's figures by place, for C, a support plate's too; of a plate the thickness alone. Places 0 and 1 of an accepted
+// answer, its cause and figure, are 0.
 ghost use Rattle.std.specs.Prelude.{◌≡◌, get_or};
 ghost use Rattle.rules.specs.Answer.{in_numbers, Endplate, BlindFlange};
 ghost use Rattle.rules.specs.BoltedAnswer.{bolted_in_numbers};
+ghost use Rattle.supports.specs.SupportPlate.{numbers_of as support_numbers_of};
 ghost use Rattle.capi.specs.Places.{figure_at, bolted_figure_at};
 
 use plates::Plate;
 use rules::{Answer, BlindFlangeFigures, BoltedSize, EndplateFigures, Refusal, Size};
+use supports::SupportPlate;
 
 // The figure at a place of a list; 0 past its end.
 pub(crate) fn at(figures: &[u64], place: u32) -> u64
@@ -91,5 +93,23 @@ pub(crate) fn bolted_figure_at(answer: Result<BoltedSize, Refusal>, place: u32) 
     match answer {
         Ok(size) => bolted_at(size, place),
         Err(refusal) => refused_at(refusal, place),
+    }
+}
+
+// The figure at a place of a support plate; a refusal has only its cause.
+pub(crate) fn support_at(answer: Result<SupportPlate, supports::Cause>, place: u32) -> u64
+    ensures { result ≡ get_or (support_numbers_of answer) place 0 }
+{
+    match answer {
+        Ok(found) => {
+            let numbers = [
+                0,
+                0,
+                u64::from(found.longest_span),
+                u64::from(found.thickness),
+            ];
+            at(&numbers, place)
+        }
+        Err(cause) => at(&[u64::from(cause.number())], place),
     }
 }

@@ -14,6 +14,7 @@ ghost use Rattle.sheet.specs.Exact.{SheetExact};
 ghost use Rattle.batch.specs.Book.{book_space, longest_batch, numbers_for, reports_for};
 ghost use Rattle.batch.specs.Exact.{BookExact};
 ghost use Rattle.batch.specs.Summary.{longest_summary, summary_for, summary_space};
+ghost use Rattle.supports.specs.SupportPlate.{numbers_for as support_numbers_for};
 ghost use Rattle.capi.specs.Call.{endplate_call, blind_flange_call, unbolted_call};
 ghost use Rattle.capi.specs.Places.{figure_at, EndplateFigureExact, BlindFlangeFigureExact};
 ghost use Rattle.capi.specs.Places.{bolted_figure_at, BoltedFigureExact};
@@ -229,6 +230,20 @@ pub extern "C" fn scantling_blind_flange_bolts(
         plates,
         place,
     )
+}
+
+// One figure of a baffle or support plate, by its place: 2 the longest span of the tubes, 3 the least thickness.
+#[unsafe(no_mangle)]
+pub extern "C" fn scantling_support_plate(
+    tube: u32,
+    group: u32,
+    span: u32,
+    plate: u32,
+    place: u32,
+) -> u64
+    ensures { result ≡ get_or (support_numbers_for tube group span plate) place 0 }
+{
+    capi::scantling_support_plate(tube, group, span, plate, place)
 }
 
 // Answers the sheet in `text`: the length of the report that results. It stands at the front of `out` if that is long

@@ -20,3 +20,4 @@ mod MinusTolerance
 mod BookOfSheets
 mod SummaryOfBook
 mod BoltsChosen
+mod SupportPlates

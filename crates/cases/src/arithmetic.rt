@@ -1,4 +1,4 @@
-// Runs the tables and the root arithmetic.
+// Runs Table 1 and the root arithmetic.
 use crate::words::low;
 use std::io;
 

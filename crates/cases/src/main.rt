@@ -1,6 +1,6 @@
-// Runs the sheet reader, books of sheets and their summaries, the calculations, the choice of a plate, the tables and the root
-// arithmetic on the vectors on standard input. Each line written is a vector and its answer; the file stdout has what must be
-// written. The separate program makes both files: host/vectors.c.
+// Runs the sheet reader, books of sheets and their summaries, the calculations, the choice of a plate, the look-up of support
+// plates, Table 1 and the root arithmetic on the vectors on standard input. Each line written is a vector and its answer; the
+// file stdout has what must be written. The separate program makes both files: host/vectors.c.
 #![tactic(auto)]
 
 mod answers;
@@ -14,6 +14,7 @@ mod line;
 mod sheets;
 mod signs;
 mod spaces;
+mod support_plates;
 mod vectors;
 mod words;
 

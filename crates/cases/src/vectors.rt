@@ -8,6 +8,7 @@ use crate::choice::smallest_serving;
 use crate::endplate::{endplate, endplate_standard};
 use crate::line::{read_numbers, text_after};
 use crate::sheets::sheet;
+use crate::support_plates::support_plate;
 use std::io::{BufRead, BufReader, Read};
 use std::{fmt, io};
 
@@ -32,6 +33,7 @@ enum Kind {
     Book,
     Summary,
     BlindFlangeBolts,
+    SupportPlate,
 }
 
 // A number that names no kind.
@@ -62,6 +64,7 @@ impl TryFrom<u64> for Kind {
             11 => Ok(Kind::Book),
             12 => Ok(Kind::Summary),
             13 => Ok(Kind::BlindFlangeBolts),
+            14 => Ok(Kind::SupportPlate),
             _ => Err(NoSuchKind),
         }
     }
@@ -83,6 +86,7 @@ impl Kind {
             Kind::Book => book(rt, numbers, text_after(line, 2)),
             Kind::Summary => summary(rt, numbers, text_after(line, 1)),
             Kind::BlindFlangeBolts => blind_flange_bolts(rt, numbers),
+            Kind::SupportPlate => support_plate(rt, numbers),
         }
     }
 }

@@ -1,5 +1,5 @@
-// Cause of a refusal, for the whole project, by its number in documents 01 and 02 (17 and 24: document 02). 15 and 16 are no
-// causes of this type: they are about a call's space and limit.
+// Cause of a part's refusal, by its number in documents 01 and 02 (17 and 24: document 02). 15 and 16 are no causes of this
+// type: they are about a call's space and limit. Nor are 18 to 20: they are of the look-up of support plates.
 
 #[derive(Clone, Copy, Debug, PartialEq, Eq)]
 pub enum Cause {

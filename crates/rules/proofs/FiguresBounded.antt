@@ -8,7 +8,7 @@ use native.Mathlib.Omega.{arith}
 use borrow.Author.Tests.{leb-true}
 use lib.Dec.{eqb}
 use Rattle.tables.specs.DesignStress.{design_stress_of}
-use Rattle.tables.proofs.Laws.{stress_most}
+use Rattle.tables.proofs.Laws.DesignStress.{stress_most}
 use Rattle.root.specs.Least.{least_most}
 use Rattle.limits.specs.Stress.{form_a, endplate_stress}
 use Rattle.rules.specs.Bounds.{most_pressure, most_stress, most_diameter, most_width, most_effective_width, most_rib}

@@ -4,7 +4,7 @@ use Rattle.std.specs.Prelude.{ℕ, ◌+◌, ◌-◌, ◌/◌, ◌≤◌, Some}
 use native.Mathlib.Omega.{arith}
 use borrow.Author.Tests.{ne_eqb}
 use Rattle.tables.specs.DesignStress.{design_stress_of, nonzero}
-use Rattle.tables.proofs.Laws.{least_stress, stress_least, stress_most, ambient_greatest}
+use Rattle.tables.proofs.Laws.DesignStress.{least_stress, stress_least, stress_most, ambient_greatest}
 use Rattle.limits.specs.declared.BlindFlangeSheet.{BlindFlangeSheet}
 use Rattle.rules.specs.Bounds.{most_stress, most_diameter, most_lever, most_effective_width, most_gasket_load}
 use Rattle.rules.specs.Bounds.{most_load, most_thickness}

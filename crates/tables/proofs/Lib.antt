@@ -1,3 +1,3 @@
--- Laws: for callers. Column: what the proof of design_stress uses.
+-- Laws: for callers. Places: what the code's searches of limits answer.
 pub mod Laws
-mod Column
+mod Places

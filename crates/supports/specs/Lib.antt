@@ -1,0 +1,2 @@
+-- What the contracts of supports cite.
+pub mod SupportPlate
