@@ -56,10 +56,14 @@ thicknesses_table =
     ∷ (thicknesses 1001, 0 ∷ 0 ∷ 0 ∷ 0 ∷ 0 ∷ 0 ∷ 0 ∷ 0 ∷ 0 ∷ 0 ∷ 0 ∷ [])
     ∷ []
 
--- by Table 14 itself, past whose last column and row there is none
-abbrev past_table : List (ℕ × ℕ)
-past_table =
-    (plate_thickness_of 3000 350, 10)
+-- ---- where the tables themselves have none, whatever a call is refused by
+
+abbrev none_table : List (ℕ × ℕ)
+none_table =
+    (longest_span_of 5 1, 0)
+    ∷ (longest_span_of 19 0, 0)
+    ∷ (longest_span_of 19 3, 0)
+    ∷ (plate_thickness_of 3000 350, 10)
     ∷ (plate_thickness_of 3001 350, 0)
     ∷ (plate_thickness_of 3000 1000, 16)
     ∷ (plate_thickness_of 3000 1001, 0)
@@ -98,6 +102,6 @@ answers_table =
 abbrev all_agree : {A : Type 0} → List (A × A) → Type 0
 all_agree table = map (λ row. row.0) table ≡ map (λ row. row.1) table
 
-rows : all_agree spans_table × all_agree thicknesses_table × all_agree past_table × all_agree answers_table
+rows : all_agree spans_table × all_agree thicknesses_table × all_agree none_table × all_agree answers_table
 unfolding tube_row longest_span_of plate_row span_column plate_thickness_of numbers_for
 rows = (refl, refl, refl, refl)
