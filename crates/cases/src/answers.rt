@@ -1,28 +1,29 @@
 // Writing of a calculation's answer: the cause, its figure, the figures of the report, the plate with its minus, and
 // the bolts where they were chosen; then the figures by place.
+use crate::output::Output;
 use plates::Plate;
 use rules::{Answer, BlindFlangeFigures, BoltedSize, EndplateFigures, FlangeBolts, Refusal, Size};
-use std::io;
+use std::fmt::{self, Write};
 
-pub(crate) fn chosen(rt: &impl Print, plate: Plate) -> io::Result<()> {
+pub(crate) fn chosen(out: &mut Output, plate: Plate) -> fmt::Result {
     let Plate {
         thickness,
         under_tolerance,
     } = plate;
-    print!(rt; " {thickness}:{under_tolerance}")
+    write!(out, " {thickness}:{under_tolerance}")
 }
 
-fn endplate(rt: &impl Print, figures: EndplateFigures, plate: Plate) -> io::Result<()> {
+fn endplate(out: &mut Output, figures: EndplateFigures, plate: Plate) -> fmt::Result {
     let EndplateFigures {
         design_stress,
         thickness,
         total,
     } = figures;
-    print!(rt; " = 0 0 {design_stress} {thickness} {total}")?;
-    chosen(rt, plate)
+    write!(out, " = 0 0 {design_stress} {thickness} {total}")?;
+    chosen(out, plate)
 }
 
-fn blind_flange(rt: &impl Print, figures: BlindFlangeFigures, plate: Plate) -> io::Result<()> {
+fn blind_flange(out: &mut Output, figures: BlindFlangeFigures, plate: Plate) -> fmt::Result {
     let BlindFlangeFigures {
         design_stress,
         ambient_stress,
@@ -35,46 +36,47 @@ fn blind_flange(rt: &impl Print, figures: BlindFlangeFigures, plate: Plate) -> i
         edge_thickness,
         total,
     } = figures;
-    print!(rt;
+    write!(
+        out,
         " = 0 0 {design_stress} {ambient_stress} {reaction_diameter} {effective_width} {operating_load} {seating_load} \
          {flange_load} {thickness} {edge_thickness} {total}"
     )?;
-    chosen(rt, plate)
+    chosen(out, plate)
 }
 
-fn refused(rt: &impl Print, refusal: Refusal) -> io::Result<()> {
-    print!(rt; " = {} {}", refusal.cause.number(), refusal.figure)
+fn refused(out: &mut Output, refusal: Refusal) -> fmt::Result {
+    write!(out, " = {} {}", refusal.cause.number(), refusal.figure)
 }
 
-pub(crate) fn answered(rt: &impl Print, answer: Answer) -> io::Result<()> {
+pub(crate) fn answered(out: &mut Output, answer: Answer) -> fmt::Result {
     match answer {
-        Ok(Size::Endplate { figures, plate }) => endplate(rt, figures, plate),
-        Ok(Size::BlindFlange { figures, plate }) => blind_flange(rt, figures, plate),
-        Err(refusal) => refused(rt, refusal),
+        Ok(Size::Endplate { figures, plate }) => endplate(out, figures, plate),
+        Ok(Size::BlindFlange { figures, plate }) => blind_flange(out, figures, plate),
+        Err(refusal) => refused(out, refusal),
     }
 }
 
 pub(crate) fn answered_with_bolts(
-    rt: &impl Print,
+    out: &mut Output,
     answer: Result<BoltedSize, Refusal>,
-) -> io::Result<()> {
+) -> fmt::Result {
     match answer {
         Ok(size) => {
             let FlangeBolts { bolt, root, count } = size.bolts;
-            blind_flange(rt, size.figures, size.plate)?;
-            print!(rt; " {bolt} {root} {count}")
+            blind_flange(out, size.figures, size.plate)?;
+            write!(out, " {bolt} {root} {count}")
         }
-        Err(refusal) => refused(rt, refusal),
+        Err(refusal) => refused(out, refusal),
     }
 }
 
 // The figures of the first places, as C gets them.
-pub(crate) fn by_place<F: Fn(u32) -> u64>(rt: &impl Print, places: u32, figure: F) -> io::Result<()>
+pub(crate) fn by_place<F: Fn(u32) -> u64>(out: &mut Output, places: u32, figure: F) -> fmt::Result
     requires { F.IsAlwaysCallable figure }
 {
-    rt.print(" :")?;
+    write!(out, " :")?;
     for place in 0..places {
-        print!(rt; " {}", figure(place))?;
+        write!(out, " {}", figure(place))?;
     }
     Ok(())
 }

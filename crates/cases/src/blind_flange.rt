@@ -2,11 +2,12 @@
 // the calls without a list. Written are the answer of the call, and then the figures by place, as C gets them.
 // A file for each part: C's calls take their numbers one by one.
 use crate::answers::{answered, by_place};
+use crate::output::Output;
 use crate::words::{bytes_of, words};
 use capi::{scantling_blind_flange, scantling_blind_flange_standard};
 use plates::{in_numbers, standard_plates};
 use rules::BlindFlangeSheet;
-use std::io;
+use std::fmt;
 
 // Two past the report's last.
 const PLACES: u32 = 15;
@@ -17,14 +18,15 @@ fn sheet_of(numbers: &[u32]) -> Option<(BlindFlangeSheet, &[u32])> {
     Some((BlindFlangeSheet::from(*own), plates))
 }
 
-pub(crate) fn blind_flange(rt: &(impl Print + Alloc), numbers: &[u64]) -> io::Result<()> {
-    let numbers = words(rt.alloc(), numbers)?;
+#[inline(never)]
+pub(crate) fn blind_flange(out: &mut Output, numbers: &[u64]) -> fmt::Result {
+    let numbers = words(numbers);
     let Some((s, plates)) = sheet_of(&numbers) else {
         return Ok(());
     };
-    let bytes = bytes_of(rt.alloc(), plates)?;
-    answered(rt, rules::blind_flange(s, in_numbers(plates)))?;
-    by_place(rt, PLACES, |place| {
+    let bytes = bytes_of(plates);
+    answered(out, rules::blind_flange(s, in_numbers(plates)))?;
+    by_place(out, PLACES, |place| {
         scantling_blind_flange(
             s.material,
             s.temperature,
@@ -49,13 +51,14 @@ pub(crate) fn blind_flange(rt: &(impl Print + Alloc), numbers: &[u64]) -> io::Re
 }
 
 // From the usual stock.
-pub(crate) fn blind_flange_standard(rt: &(impl Print + Alloc), numbers: &[u64]) -> io::Result<()> {
-    let numbers = words(rt.alloc(), numbers)?;
+#[inline(never)]
+pub(crate) fn blind_flange_standard(out: &mut Output, numbers: &[u64]) -> fmt::Result {
+    let numbers = words(numbers);
     let Some((s, [])) = sheet_of(&numbers) else {
         return Ok(());
     };
-    answered(rt, rules::blind_flange(s, &standard_plates()))?;
-    by_place(rt, PLACES, |place| {
+    answered(out, rules::blind_flange(s, &standard_plates()))?;
+    by_place(out, PLACES, |place| {
         scantling_blind_flange_standard(
             s.material,
             s.temperature,

@@ -2,11 +2,12 @@
 // its lines, the diameters and the root areas, each list after its length, and the plates. Written are the answer of
 // the call, and then the figures by place, as C gets them.
 use crate::answers::{answered_with_bolts, by_place};
+use crate::output::Output;
 use crate::words::{bytes_of, words};
 use capi::scantling_blind_flange_bolts;
 use plates::in_numbers;
 use rules::UnboltedSheet;
-use std::io;
+use std::fmt;
 
 // Two past the bolts.
 const PLACES: u32 = 18;
@@ -61,19 +62,20 @@ fn parts_of(numbers: &[u32]) -> Option<(UnboltedSheet, &[u32], &[u32], &[u32])> 
     Some((sheet, diameters, areas, plates))
 }
 
-pub(crate) fn blind_flange_bolts(rt: &(impl Print + Alloc), numbers: &[u64]) -> io::Result<()> {
-    let numbers = words(rt.alloc(), numbers)?;
+#[inline(never)]
+pub(crate) fn blind_flange_bolts(out: &mut Output, numbers: &[u64]) -> fmt::Result {
+    let numbers = words(numbers);
     let Some((s, diameters, areas, plates)) = parts_of(&numbers) else {
         return Ok(());
     };
     answered_with_bolts(
-        rt,
+        out,
         rules::blind_flange_bolts(s, diameters, areas, in_numbers(plates)),
     )?;
-    let diameters = bytes_of(rt.alloc(), diameters)?;
-    let areas = bytes_of(rt.alloc(), areas)?;
-    let plates = bytes_of(rt.alloc(), plates)?;
-    by_place(rt, PLACES, |place| {
+    let diameters = bytes_of(diameters);
+    let areas = bytes_of(areas);
+    let plates = bytes_of(plates);
+    by_place(out, PLACES, |place| {
         scantling_blind_flange_bolts(
             s.material,
             s.temperature,

@@ -2,11 +2,12 @@
 // the calls without a list. Written are the answer of the call, and then the figures by place, as C gets them.
 // A file for each part: C's calls take their numbers one by one.
 use crate::answers::{answered, by_place};
+use crate::output::Output;
 use crate::words::{bytes_of, words};
 use capi::{scantling_endplate, scantling_endplate_standard};
 use plates::{in_numbers, standard_plates};
 use rules::EndplateSheet;
-use std::io;
+use std::fmt;
 
 // Two past the report's last.
 const PLACES: u32 = 8;
@@ -17,14 +18,15 @@ fn sheet_of(numbers: &[u32]) -> Option<(EndplateSheet, &[u32])> {
     Some((EndplateSheet::from(*own), plates))
 }
 
-pub(crate) fn endplate(rt: &(impl Print + Alloc), numbers: &[u64]) -> io::Result<()> {
-    let numbers = words(rt.alloc(), numbers)?;
+#[inline(never)]
+pub(crate) fn endplate(out: &mut Output, numbers: &[u64]) -> fmt::Result {
+    let numbers = words(numbers);
     let Some((s, plates)) = sheet_of(&numbers) else {
         return Ok(());
     };
-    let bytes = bytes_of(rt.alloc(), plates)?;
-    answered(rt, rules::endplate(s, in_numbers(plates)))?;
-    by_place(rt, PLACES, |place| {
+    let bytes = bytes_of(plates);
+    answered(out, rules::endplate(s, in_numbers(plates)))?;
+    by_place(out, PLACES, |place| {
         scantling_endplate(
             s.form,
             s.material,
@@ -40,13 +42,14 @@ pub(crate) fn endplate(rt: &(impl Print + Alloc), numbers: &[u64]) -> io::Result
 }
 
 // From the usual stock.
-pub(crate) fn endplate_standard(rt: &(impl Print + Alloc), numbers: &[u64]) -> io::Result<()> {
-    let numbers = words(rt.alloc(), numbers)?;
+#[inline(never)]
+pub(crate) fn endplate_standard(out: &mut Output, numbers: &[u64]) -> fmt::Result {
+    let numbers = words(numbers);
     let Some((s, [])) = sheet_of(&numbers) else {
         return Ok(());
     };
-    answered(rt, rules::endplate(s, &standard_plates()))?;
-    by_place(rt, PLACES, |place| {
+    answered(out, rules::endplate(s, &standard_plates()))?;
+    by_place(out, PLACES, |place| {
         scantling_endplate_standard(
             s.form,
             s.material,

@@ -1,5 +1,11 @@
 // A line of vectors: numbers with single spaces between, and in some kinds a text after them.
-use std::alloc::{AllocError, Allocator};
+use arrayvec::ArrayVec;
+
+// Bytes of a line with its LF. A longer one ends the run.
+pub(crate) const LONGEST_LINE: usize = 65_536;
+
+// Room for a line's numbers. A line of so many or more has no answer.
+pub(crate) const MOST_NUMBERS: usize = 1024;
 
 // The number that the digits spell; one of 2^64 and more is not meant. Not `parse`, which would refuse the text of a line.
 fn decimal(digits: &[u8]) -> u64 {
@@ -8,11 +14,13 @@ fn decimal(digits: &[u8]) -> u64 {
     })
 }
 
-// The numbers of the line. A text is read as some numbers more.
-pub(crate) fn read_numbers<A: Allocator>(alloc: A, line: &[u8]) -> Result<Vec<u64, A>, AllocError> {
-    line.split_inclusive(|b| *b == b' ')
-        .map(|piece| decimal(piece.strip_suffix(b" ").unwrap_or(piece)))
-        .collect(alloc)
+// Adds the numbers of the line, as many as there is room for. A text is read as some numbers more.
+pub(crate) fn read_numbers(line: &[u8], numbers: &mut ArrayVec<u64, MOST_NUMBERS>) {
+    // It fails at the first number that has no room.
+    let _ = numbers.extend(
+        line.split_inclusive(|b| *b == b' ')
+            .map(|piece| decimal(piece.strip_suffix(b" ").unwrap_or(piece))),
+    );
 }
 
 // What stands after the kind and so many numbers.

@@ -11,6 +11,7 @@ mod books;
 mod choice;
 mod endplate;
 mod line;
+mod output;
 mod sheets;
 mod signs;
 mod spaces;
@@ -18,7 +19,7 @@ mod support_plates;
 mod vectors;
 mod words;
 
-fn main(rt: HostRuntime) {
-    // A read or a write that fails ends the run, as the end of the input does: it is not told, and the status is 0.
-    let _ = vectors::run(&rt, rt.stdin());
+// A read that fails counts as the end of the input, and a write that fails is passed over: neither is told, and the status is 0.
+fn main() {
+    vectors::run();
 }

@@ -1,22 +1,22 @@
 // Vectors, a line each. A line is written again with its answer; its first number is its kind, and a kind's function is
 // given the numbers after that. Numbers that do not suit the kind have no answer.
+ghost use Rattle.std.specs.Prelude.{◌≤◌, length};
+
 use crate::arithmetic::{design_stress, quotient, root, root_over};
 use crate::blind_flange::{blind_flange, blind_flange_standard};
 use crate::bolts::blind_flange_bolts;
 use crate::books::{book, summary};
 use crate::choice::smallest_serving;
 use crate::endplate::{endplate, endplate_standard};
-use crate::line::{read_numbers, text_after};
+use crate::line::{LONGEST_LINE, read_numbers, text_after};
+use crate::output::Output;
 use crate::sheets::sheet;
+use crate::signs::text_in;
 use crate::support_plates::support_plate;
-use std::io::{BufRead, BufReader, Read};
-use std::{fmt, io};
+use arrayvec::ArrayVec;
+use std::fmt::{self, Write};
 
-// Bytes of a line with its LF. A longer one ends the run.
-const LONGEST_LINE: u64 = 65536;
-
-// A line of so many numbers or more has no answer.
-const TOO_MANY_NUMBERS: usize = 1024;
+const STDIN: i32 = 0;
 
 #[derive(Clone, Copy)]
 enum Kind {
@@ -71,55 +71,80 @@ impl TryFrom<u64> for Kind {
 }
 
 impl Kind {
-    fn answer(self, rt: &(impl Print + Alloc), numbers: &[u64], line: &[u8]) -> io::Result<()> {
+    // A text in signs is stored in `room`.
+    fn answer(
+        self,
+        out: &mut Output,
+        numbers: &[u64],
+        line: &[u8],
+        room: &mut [u8],
+    ) -> fmt::Result {
         match self {
-            Kind::Endplate => endplate(rt, numbers),
-            Kind::BlindFlange => blind_flange(rt, numbers),
-            Kind::Sheet => sheet(rt, numbers, text_after(line, 1)),
-            Kind::DesignStress => design_stress(rt, numbers),
-            Kind::Quotient => quotient(rt, numbers),
-            Kind::Root => root(rt, numbers),
-            Kind::RootOver => root_over(rt, numbers),
-            Kind::EndplateStandard => endplate_standard(rt, numbers),
-            Kind::BlindFlangeStandard => blind_flange_standard(rt, numbers),
-            Kind::SmallestServing => smallest_serving(rt, numbers),
-            Kind::Book => book(rt, numbers, text_after(line, 2)),
-            Kind::Summary => summary(rt, numbers, text_after(line, 1)),
-            Kind::BlindFlangeBolts => blind_flange_bolts(rt, numbers),
-            Kind::SupportPlate => support_plate(rt, numbers),
+            Kind::Endplate => endplate(out, numbers),
+            Kind::BlindFlange => blind_flange(out, numbers),
+            Kind::Sheet => sheet(out, numbers, text_in(text_after(line, 1), room)),
+            Kind::DesignStress => design_stress(out, numbers),
+            Kind::Quotient => quotient(out, numbers),
+            Kind::Root => root(out, numbers),
+            Kind::RootOver => root_over(out, numbers),
+            Kind::EndplateStandard => endplate_standard(out, numbers),
+            Kind::BlindFlangeStandard => blind_flange_standard(out, numbers),
+            Kind::SmallestServing => smallest_serving(out, numbers),
+            Kind::Book => book(out, numbers, text_in(text_after(line, 2), room)),
+            Kind::Summary => summary(out, numbers, text_in(text_after(line, 1), room)),
+            Kind::BlindFlangeBolts => blind_flange_bolts(out, numbers),
+            Kind::SupportPlate => support_plate(out, numbers),
         }
     }
 }
 
-fn work(rt: &(impl Print + Alloc), line: &[u8]) -> io::Result<()> {
-    let numbers = read_numbers(rt.alloc(), line)?;
-    rt.write_all(line)?;
+fn work(out: &mut Output, line: &[u8], room: &mut [u8]) -> fmt::Result {
+    let mut numbers = ArrayVec::new();
+    read_numbers(line, &mut numbers);
+    out.write_bytes(line);
     match numbers.as_slice() {
         [] => {}
-        many if TOO_MANY_NUMBERS <= many.len() => rt.print(" too many numbers")?,
+        _ if numbers.is_full() => write!(out, " too many numbers")?,
         [kind, numbers @ ..] => match Kind::try_from(*kind) {
-            Ok(kind) => kind.answer(rt, numbers, line)?,
-            Err(unknown) => print!(rt; " {unknown}")?,
+            Ok(kind) => kind.answer(out, numbers, line, room)?,
+            Err(unknown) => write!(out, " {unknown}")?,
         },
     }
-    rt.print("\n")
+    write!(out, "\n")
 }
 
-// The run ends at the first line with no LF.
-pub(crate) fn run(rt: &(impl Print + Alloc), input: impl Read + Drop) -> io::Result<()> {
-    let mut input = BufReader::new(rt.alloc(), input)?;
-    let mut line = Vec::new(rt.alloc());
-    // More lines than any input has: a `loop` has to have a measure.
-    for _ in 0..u64::MAX {
-        line.clear();
-        input
-            .by_ref()
-            .take(LONGEST_LINE)
-            .read_until(b'\n', &mut line)?;
-        let Some(line) = line.strip_suffix(b"\n") else {
-            break;
-        };
-        work(rt, line)?;
+// The length of the lines that have ended.
+fn ended(piece: &[u8]) -> usize
+    ensures { result ≤ length piece.now }
+{
+    piece
+        .iter()
+        .rposition(|b| *b == b'\n')
+        .map_or(0, |last| last + 1)
+}
+
+fn work_lines(out: &mut Output, lines: &[u8], room: &mut [u8]) {
+    for line in lines.split_inclusive(|b| *b == b'\n') {
+        let _ = work(out, line.strip_suffix(b"\n").unwrap_or(line), room);
     }
-    Ok(())
+}
+
+// Reads piece by piece. A line that has not ended goes to the front of the next piece; one that the input ends has no answer.
+pub(crate) fn run() {
+    let mut out = Output::new();
+    let mut piece = [0; LONGEST_LINE];
+    let mut room = [0; LONGEST_LINE];
+    let mut kept = 0;
+    // More pieces than any input has: a `loop` has to have a measure.
+    for _ in 0..u64::MAX {
+        let filled = kept + io::read_full(STDIN, &mut piece[kept..]);
+        if filled == kept {
+            break;
+        }
+        let end = ended(&piece[..filled]);
+        work_lines(&mut out, &piece[..end], &mut room);
+        out.flush();
+        piece.copy_within(end..filled, 0);
+        kept = filled - end;
+    }
 }

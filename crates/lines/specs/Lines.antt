@@ -3,7 +3,7 @@ use Rattle.std.specs.Prelude.{ℕ, ◌+◌, cond, List, [], ◌∷◌, eqb, leng
 use Rattle.plates.specs.declared.Plate.{Plate}
 use Rattle.text.specs.Ascii.{ascii, line_feed}
 use Rattle.text.specs.Line.{is_line, value_of, after}
-use Rattle.text.specs.Plates.{plates_of}
+use Rattle.text.specs.Plates.{plates_of, plates_held}
 use Rattle.lines.specs.Fields.{Field, field_of}
 use Rattle.lines.specs.declared.SheetLines.{SheetLines}
 use Rattle.lines.specs.declared.Malformed.{Malformed}
@@ -38,5 +38,5 @@ lines_of line (field ∷ fields) t =
 
 -- those that were read
 abbrev pub lines_read : {N : ℕ} → Result (SheetLines N) Malformed → Lines
-lines_read (Ok lines) = given lines.values lines.plates.items
+lines_read (Ok lines) = given lines.values (plates_held lines.plates)
 lines_read (Err malformed) = fault malformed.line

@@ -10,16 +10,14 @@ ghost use Rattle.text.specs.Plates.{plates_read};
 ghost use Rattle.lines.specs.Fields.{field_meant};
 ghost use Rattle.lines.specs.Lines.{plates_line, lines_of, lines_read};
 
-use arrayvec::ArrayVec;
 pub use field::Field;
-use plates::Plate;
-use text::{MOST_PLATES, line_value, next_line, read_plates};
+use text::{Plates, line_value, next_line, read_plates};
 
 // The numbers of the fields, in order, and the plates.
-#[derive(Drop)]
+#[derive(Clone, Copy)]
 pub struct SheetLines<const N: usize> {
     pub values: [u32; N],
-    pub plates: ArrayVec<Plate, MOST_PLATES>,
+    pub plates: Plates,
 }
 
 // The number of the first line that is absent, has a wrong key or value text or no LF, or follows the last.
@@ -30,7 +28,7 @@ pub struct Malformed {
 
 // The plates that the line which t begins with lists.
 #[tactic(auto, unfolding(crate::specs::Lines::plates_line))]
-fn plates_line(t: &[u8]) -> Option<ArrayVec<Plate, MOST_PLATES>>
+fn plates_line(t: &[u8]) -> Option<Plates>
     ensures { plates_read result ≡ plates_line t.now }
 {
     read_plates(line_value(t, b"plates")?)

@@ -1,5 +1,5 @@
 // The text of a report: its lines, one after another; and a line for other texts.
-ghost use Rattle.std.specs.Prelude.{◌≡◌, ◌+◌, ◌≤◌, ◌++◌, cond, leb};
+ghost use Rattle.std.specs.Prelude.{◌≡◌, ◌+◌, ◌≤◌, ◌++◌, cond, leb, length};
 ghost use Rattle.arrayvec.specs.ArrayVec.{array_vec_len};
 ghost use Rattle.rules.specs.Answer.{in_numbers};
 ghost use Rattle.report.specs.Decimal.{number_line};
@@ -10,9 +10,19 @@ use arrayvec::ArrayVec;
 use itoa::Buffer;
 use rules::{Answer, Size};
 
-type Text = ArrayVec<u8, LONGEST>;
+pub type Text = ArrayVec<u8, LONGEST>;
 
-// Key, `=`, number, LF. The line has room, so no `unwrap` stops.
+// Adds the bytes, which have room, one by one: the kit's `try_extend_from_slice` would need C's memmove, which nothing else here does.
+fn put<const N: usize>(text: &mut ArrayVec<u8, N>, bytes: &[u8])
+    requires { array_vec_len text.old + length bytes.now ≤ N }
+    ensures { text.new.items ≡ text.old.items ++ bytes.now }
+{
+    for &byte in bytes {
+        text.push(byte);
+    }
+}
+
+// Key, `=`, number, LF. The line has room.
 fn put_line<const N: usize>(text: &mut ArrayVec<u8, N>, key: &[u8], n: u64)
     requires { array_vec_len text.old + line_room key.now ≤ N }
     ensures line { text.new.items ≡ text.old.items ++ number_line key.now n }
@@ -20,9 +30,9 @@ fn put_line<const N: usize>(text: &mut ArrayVec<u8, N>, key: &[u8], n: u64)
 {
     let mut buffer = Buffer::new();
     let digits = buffer.format(n);
-    text.try_extend_from_slice(key).unwrap();
+    put(text, key);
     text.push(b'=');
-    text.try_extend_from_slice(digits.as_bytes()).unwrap();
+    put(text, digits.as_bytes());
     text.push(b'\n');
 }
 
@@ -53,32 +63,66 @@ fn text_of(rows: &[(&[u8], u64)]) -> Text
     text
 }
 
-pub(crate) fn spell(answer: Answer) -> Text
-    ensures { result.items ≡ report_text (in_numbers answer) }
-{
-    match answer {
-        Ok(Size::Endplate { figures, plate }) => text_of(&[
-            (b"stress", figures.design_stress),
-            (b"need", figures.thickness),
-            (b"total", figures.total),
-            (b"plate", u64::from(plate.thickness)),
-        ]),
-        Ok(Size::BlindFlange { figures: f, plate }) => text_of(&[
-            (b"stress", f.design_stress),
-            (b"cold", f.ambient_stress),
-            (b"g", f.reaction_diameter),
-            (b"b", f.effective_width),
-            (b"wm1", f.operating_load),
-            (b"wm2", f.seating_load),
-            (b"w", f.flange_load),
-            (b"need", f.thickness),
-            (b"edge", f.edge_thickness),
-            (b"total", f.total),
-            (b"plate", u64::from(plate.thickness)),
-        ]),
-        Err(refusal) => text_of(&[
-            (b"refused", u64::from(refusal.cause.number())),
-            (b"place", refusal.figure),
-        ]),
+// What a report tells.
+pub trait Told: Copy {
+    ghost use Rattle.rules.specs.Answer.{Answer};
+
+    ghost told: { Self → Answer };
+
+    // The report's text.
+    fn text(self) -> Text
+        ensures { result.items ≡ report_text (told self) };
+}
+
+impl Told for Answer {
+    ghost told = { in_numbers };
+
+    fn text(self) -> Text {
+        match self {
+            Ok(Size::Endplate { figures, plate }) => text_of(&[
+                (b"stress", figures.design_stress),
+                (b"need", figures.thickness),
+                (b"total", figures.total),
+                (b"plate", u64::from(plate.thickness)),
+            ]),
+            Ok(Size::BlindFlange { figures: f, plate }) => text_of(&[
+                (b"stress", f.design_stress),
+                (b"cold", f.ambient_stress),
+                (b"g", f.reaction_diameter),
+                (b"b", f.effective_width),
+                (b"wm1", f.operating_load),
+                (b"wm2", f.seating_load),
+                (b"w", f.flange_load),
+                (b"need", f.thickness),
+                (b"edge", f.edge_thickness),
+                (b"total", f.total),
+                (b"plate", u64::from(plate.thickness)),
+            ]),
+            Err(refusal) => Refused {
+                cause: refusal.cause.number(),
+                figure: refusal.figure,
+            }
+            .text(),
+        }
+    }
+}
+
+// A refusal by its two numbers, of any cause: not of those in `rules::Cause` alone.
+#[derive(Clone, Copy, Debug, PartialEq, Eq)]
+pub struct Refused {
+    pub cause: u32,
+    pub figure: u64,
+}
+
+impl Told for Refused {
+    ghost use Rattle.rules.specs.Answer.{Refused as refused_by};
+
+    ghost told = { λ r. refused_by r.cause r.figure };
+
+    fn text(self) -> Text {
+        let mut text = ArrayVec::new();
+        put_line(&mut text, b"refused", u64::from(self.cause));
+        put_line(&mut text, b"place", self.figure);
+        text
     }
 }

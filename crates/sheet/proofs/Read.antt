@@ -4,6 +4,7 @@ use Rattle.std.proofs.Common.{sym, ap, true≢false, ◌∙◌}
 use Rattle.limits.specs.declared.cause.Cause.TheVariants.{Malformed as Cause-as-Malformed}
 use Rattle.rules.specs.declared.Refusal.{Refusal}
 use Rattle.rules.specs.Answer.{in_numbers}
+use Rattle.text.specs.Plates.{plates_held}
 use Rattle.lines.specs.Lines.{Lines, fault, given, lines_read}
 use Rattle.lines.specs.declared.Malformed.{Malformed}
 use Rattle.lines.specs.declared.SheetLines.{SheetLines}
@@ -34,13 +35,13 @@ fault_answered blind lines P refusal (Err m) e h v =
 
 -- the lines that it hands on
 abbrev handed_lines : {N : ℕ} → Result (SheetLines N) Refusal → Lines
-handed_lines (Ok s) = given s.values s.plates.items
+handed_lines (Ok s) = given s.values (plates_held s.plates)
 handed_lines (Err refusal) = fault 0
 
 pub lines_given :
     {N : ℕ} (blind : Bool) (lines : Lines) (s : SheetLines N) (r : Result (SheetLines N) Malformed) →
     lines_read r ≡ lines →
     MatchResult r (λ x. ◌≡◌ {A = Result (SheetLines N) Refusal} (Ok s) (Ok x)) (λ m. ⊥) →
-    read blind (given s.values s.plates.items) ≡ read blind lines
+    read blind (given s.values (plates_held s.plates)) ≡ read blind lines
 lines_given blind lines s (Ok x) e h = ap (read blind) (ap handed_lines h ∙ e)
 lines_given blind lines s (Err m) e h = absurd h

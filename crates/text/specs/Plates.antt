@@ -1,12 +1,12 @@
 -- The plate list: nothing for the usual stock, the word none for no plate, or 1 to 32 entries with commas between.
-use Rattle.std.specs.Prelude.{ℕ, zero, suc, cond, List, [], ◌∷◌, eqb, length, Option, Some, None}
+use Rattle.std.specs.Prelude.{ℕ, zero, suc, cond, List, [], ◌∷◌, eqb, length, take, Option, Some, None}
 use Rattle.std.specs.Option.{option_map}
-use Rattle.arrayvec.specs.ArrayVec.{ArrayVec}
 use Rattle.plates.specs.declared.Plate.{Plate}
 use Rattle.plates.specs.Plates.{standard_plates}
 use Rattle.text.specs.Ascii.{ascii, comma, colon}
 use Rattle.text.specs.Line.{same, contains, before, after}
 use Rattle.text.specs.Number.{number_of}
+use Rattle.text.specs.declared.named_plates.Plates.{Plates}
 
 -- how many entries at most
 abbrev pub most_plates : ℕ
@@ -44,6 +44,10 @@ plates_of v =
     let listed = plates_listed most_plates v in
     cond (eqb (length v) 0) (Some standard_plates) (cond (same (ascii "none") v) (Some []) listed)
 
--- the plates that a list which was read holds, in order
-abbrev pub plates_read : Option (ArrayVec Plate) → Option (List Plate)
-plates_read list = option_map (λ plates. plates.items) list
+-- the plates that the code's own hold, in order
+abbrev pub plates_held : Plates → List Plate
+plates_held plates = take plates.count plates.list
+
+-- those of a list which was read
+abbrev pub plates_read : Option Plates → Option (List Plate)
+plates_read list = option_map plates_held list

@@ -2,9 +2,11 @@
 #![tactic(auto)]
 
 mod line;
+mod named_plates;
 mod number;
 mod plate_list;
 
-pub use line::{line_value, next_line};
+pub use line::{line_value, next_line, value};
+pub use named_plates::{MOST_PLATES, Plates};
 pub use number::read_number;
-pub use plate_list::{MOST_PLATES, read_plates};
+pub use plate_list::read_plates;

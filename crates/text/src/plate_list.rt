@@ -1,15 +1,12 @@
 // The plate list: nothing for the usual stock, the word none for no plate, or 1 to 32 entries with commas between.
 ghost use Rattle.std.specs.Prelude.{◌≡◌, []};
 ghost use Rattle.std.specs.Option.{option_map};
-ghost use Rattle.text.specs.Plates.{entry_of, most_plates, plates_listed, plates_of, plates_read};
+ghost use Rattle.text.specs.Plates.{entry_of, most_plates, plates_held, plates_listed, plates_of, plates_read};
 
 use crate::line::first;
+use crate::named_plates::Plates;
 use crate::number::read_number;
-use arrayvec::ArrayVec;
 use plates::{Plate, standard_plates};
-
-// How many entries at most.
-pub const MOST_PLATES: usize = 32;
 
 const COMMA: u8 = b',';
 
@@ -34,9 +31,9 @@ fn read_plate(v: &[u8]) -> Option<Plate>
 }
 
 // Puts the plates that v lists, 1 to 32 entries with commas between, into an empty list. In place: a list is large to hand on.
-fn read_list(v: &[u8], plates: &mut ArrayVec<Plate, MOST_PLATES>) -> Option<()>
-    requires { plates.old.items ≡ [] }
-    ensures { option_map (λ done. plates.new.items) result ≡ plates_listed most_plates v.now }
+fn read_list(v: &[u8], plates: &mut Plates) -> Option<()>
+    requires { plates_held plates.old ≡ [] }
+    ensures { option_map (λ done. plates_held plates.new) result ≡ plates_listed most_plates v.now }
 {
     for part in v.split(|&b| b == COMMA) {
         if plates.is_full() {
@@ -49,13 +46,14 @@ fn read_list(v: &[u8], plates: &mut ArrayVec<Plate, MOST_PLATES>) -> Option<()>
 
 // The plates that v names: the usual stock where it is empty, no plate where it is the word none, else those listed.
 #[tactic(auto, unfolding(crate::specs::Plates::plates_of), using(crate::specs::Laws::Begins::same_is))]
-pub fn read_plates(v: &[u8]) -> Option<ArrayVec<Plate, MOST_PLATES>>
+pub fn read_plates(v: &[u8]) -> Option<Plates>
     ensures { plates_read result ≡ plates_of v.now }
 {
-    let mut plates = ArrayVec::new();
     if v.is_empty() {
-        plates.try_extend_from_slice(&standard_plates()).ok()?;
-    } else if v != b"none".as_slice() {
+        return Some(Plates::of(&standard_plates()));
+    }
+    let mut plates = Plates::of(&[]);
+    if v != b"none".as_slice() {
         read_list(v, &mut plates)?;
     }
     Some(plates)

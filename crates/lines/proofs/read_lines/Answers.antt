@@ -3,6 +3,7 @@ use Rattle.std.proofs.Common.{arith, rules, tests, sym, ◌∙◌, ◌≡◌, le
 use Rattle.std.specs.Prelude.{Some}
 use Rattle.text.specs.Ascii.{line_feed}
 use Rattle.text.specs.Line.{after}
+use Rattle.text.specs.Plates.{plates_held}
 use Rattle.lines.proofs.LineByLine.{line_more, lines_end}
 use Rattle.lines.proofs.read_lines.Goals as goal
 
@@ -18,4 +19,4 @@ pub returns : goal.returns
 returns g c =
     let l = c.loop-i in
     let nothing : length (after line_feed l.t.now) ≡ 0 = search (rules, tests) in
-    sym (l.invariant.0 ∙ lines_end c.args.fields.now l.t.now l.i l.values c.in_ok-plates.plates.items (omega arith) (omega arith) (search rules) nothing)
+    sym (l.invariant.0 ∙ lines_end c.args.fields.now l.t.now l.i l.values (plates_held c.in_ok-plates.plates) (omega arith) (omega arith) (search rules) nothing)

@@ -1,9 +1,9 @@
 -- `numbers::numbers_in_bytes` meets its contract. Assumes nothing.
-use Rattle.std.proofs.Common.{arith, length, ◌/◌}
+use Rattle.std.proofs.Common.{arith, length, take_all, ◌/◌}
 use Rattle.plates.proofs.Chunks.{fours}
 use Rattle.plates.proofs.numbers.numbers_in_bytes.Goals as goal
 
 pub returns : goal.returns
 returns c =
     let bytes = c.args.bytes.now in
-    rw c.as_chunks.ensures.front (fours (length bytes / 4) bytes (omega arith) (omega arith))
+    grind (arith, take_all, c.as_chunks.ensures.front, fours (length bytes / 4) bytes (omega arith) (omega arith))

@@ -22,5 +22,5 @@ returns c =
     let said : Answered (blind_flange _ _) _ = (made.value, (made.numbers, made.exact)) in
     answered_as
     {other = blind_flange _ _}
-    (rw (c.as_slice.ensures.value, map-id, c.from.ensures) at said)
+    (rw (c.as_slice.ensures, map-id, c.from.ensures) at said)
     (lines_given true _ _ c.read_lines.result c.read_lines.ensures c.in_ok-read.ensures.cases)

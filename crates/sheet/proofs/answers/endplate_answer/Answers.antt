@@ -13,5 +13,5 @@ returns c =
     let said : Answered (endplate _ _) _ = (made.value, (made.numbers, made.exact)) in
     answered_as
     {other = endplate _ _}
-    (rw (c.as_slice.ensures.value, map-id, c.from.ensures) at said)
+    (rw (c.as_slice.ensures, map-id, c.from.ensures) at said)
     (lines_given false _ _ c.read_lines.result c.read_lines.ensures c.in_ok-read.ensures.cases)

@@ -1,7 +1,7 @@
 -- `plate_list::read_list` meets its contract. Assumes nothing.
 use Rattle.std.proofs.Common.{rules, tests, arith, ◌∙◌, ◌≡◌, ◌<◌, sym, ◌-◌, ap, length, get_or}
 use Rattle.std.specs.List.{slice_split}
-use Rattle.text.specs.Plates.{most_plates}
+use Rattle.text.specs.Plates.{most_plates, plates_held}
 use Rattle.std.proofs.lemmas.Iterator.Consumers.{YieldsList-turn, YieldsList-end}
 use Rattle.std.proofs.lemmas.Iterator.Splits.{YieldsList-from_slice_split}
 use Rattle.std.proofs.lemmas.List.{length_push}
@@ -23,21 +23,21 @@ loop-part-init c =
 pub returns-in_err-read_plate : goal.returns-in_err-read_plate
 returns-in_err-read_plate c =
     let none = entries_malformed _ _ _ (here (goal.at.returns-in_err-read_plate c).In-Some) _ (sym c.in_err-read_plate.ensures) in
-    rw c.from_residual.ensures (sym (c.loop-part.invariant.0 ∙ ap (prepend_list c.loop-part.plates.items) none))
+    rw c.from_residual.ensures (sym (c.loop-part.invariant.0 ∙ ap (prepend_list (plates_held c.loop-part.plates)) none))
 
 pub returns-then-is_full : goal.returns-then-is_full
 returns-then-is_full c =
     let l = c.loop-part in
-    let full : length l.plates.items ≡ most_plates = search (rules, tests) in
+    let full : length (plates_held l.plates) ≡ most_plates = search (rules, tests) in
     let none = entries_full _ _ _ (here (goal.at.returns-then-is_full c).In-Some) (most_plates - length l.yielded) (omega arith) in
-    sym (l.invariant.0 ∙ ap (prepend_list l.plates.items) none)
+    sym (l.invariant.0 ∙ ap (prepend_list (plates_held l.plates)) none)
 
 pub loop-part-preserved : goal.loop-part-preserved
 loop-part-preserved c =
     let l = c.loop-part in
-    let room : length l.plates.items < most_plates = search (rules, tests) in
-    let more = entries_more _ _ _ (here (goal.at.loop-part-preserved c).In-Some) most_plates l.plates.items _ (sym c.in_ok-read_plate.ensures) (omega arith) in
-    rw (length_push l.yielded c.in-Some.part, c.push.ensures.items, length_push l.plates.items c.in_ok-read_plate.field-0)
+    let room : length (plates_held l.plates) < most_plates = search (rules, tests) in
+    let more = entries_more _ _ _ (here (goal.at.loop-part-preserved c).In-Some) most_plates (plates_held l.plates) _ (sym c.in_ok-read_plate.ensures) (omega arith) in
+    rw (length_push l.yielded c.in-Some.part, c.push.ensures, length_push (plates_held l.plates) c.in_ok-read_plate.field-0)
     (l.invariant.0 ∙ more, omega arith, omega arith)
 
 pub returns : goal.returns
