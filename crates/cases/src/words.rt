@@ -1,5 +1,5 @@
-// Numbers as the calls take them: their low 32 bits, and for C four bytes to a number, lowest first. A line's numbers have
-// room. Neither what makes them nor a kind's function that holds them is inlined, so that the stack has those of one kind at a time.
+// Numbers as the calls take them: their low 32 bits, and for C four bytes to a number, lowest first. A line's numbers have room.
+// Neither what makes them nor a kind's function that holds them is inlined, so that the stack has those of one kind at a time.
 use crate::line::MOST_NUMBERS;
 use arrayvec::ArrayVec;
 

@@ -12,7 +12,8 @@ use rules::{Answer, Size};
 
 pub type Text = ArrayVec<u8, LONGEST>;
 
-// Adds the bytes, which have room, one by one: the kit's `try_extend_from_slice` would need C's memmove, which nothing else here does.
+// Adds the bytes, which have room, one by one: with the kit's `try_extend_from_slice` the archive for C would need memmove, which
+// nothing else in it does.
 fn put<const N: usize>(text: &mut ArrayVec<u8, N>, bytes: &[u8])
     requires { array_vec_len text.old + length bytes.now ≤ N }
     ensures { text.new.items ≡ text.old.items ++ bytes.now }

@@ -3,7 +3,6 @@ use Rattle.std.proofs.Common.{ℕ, ◌+◌, Bool, true, false, cond, eqb, List, 
 use mathlib.Core.Bool.{and-true}
 use Rattle.std.specs.Cmp.Lexicographic.{pointwise}
 use Rattle.std.specs.List.{position_or_len}
-use Rattle.std.proofs.lemmas.List.{drop-drop}
 use Rattle.std.proofs.lemmas.List.Recursion.{is_position_or_len}
 use Rattle.text.specs.Ascii.{equals}
 use Rattle.text.specs.Index.{index_of, index_after}
@@ -30,7 +29,3 @@ equals_is [] [] = refl
 equals_is [] (x ∷ t) = sym (and-true (eqb x equals))
 equals_is (b ∷ key) [] = refl
 equals_is (b ∷ key) (x ∷ t) = equals_is key t
-
--- what is left past both
-pub past_equals : (key t : List ℕ) → drop 1 (drop (length key) t) ≡ drop (length key + 1) t
-past_equals key t = drop-drop 1 (length key) t

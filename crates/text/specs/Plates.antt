@@ -44,7 +44,7 @@ plates_of v =
     let listed = plates_listed most_plates v in
     cond (eqb (length v) 0) (Some standard_plates) (cond (same (ascii "none") v) (Some []) listed)
 
--- the plates that the code's own hold, in order
+-- the plates that the code's `Plates` hold, in order
 abbrev pub plates_held : Plates → List Plate
 plates_held plates = take plates.count plates.list
 

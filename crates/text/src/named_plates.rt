@@ -1,4 +1,4 @@
-// The plates that a plates line names, in a place of their own.
+// The plates that a plates line names: up to 32, in an array.
 ghost use Rattle.std.specs.Prelude.{◌≤◌};
 
 use plates::Plate;
